@@ -1,0 +1,4 @@
+pub mod Years
+pub mod Months
+pub mod Turns
+pub mod Counts

@@ -1,0 +1,3 @@
+pub mod Paschals
+pub mod Falls
+pub mod Exact

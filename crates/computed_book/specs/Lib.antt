@@ -1,0 +1,3 @@
+pub mod Easters
+pub mod Rules
+pub mod Words

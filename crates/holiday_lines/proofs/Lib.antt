@@ -1,0 +1,4 @@
+pub mod Parts
+pub mod Gathered
+pub mod Named
+pub mod Lawful

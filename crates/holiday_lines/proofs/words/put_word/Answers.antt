@@ -1,0 +1,5 @@
+use Rattle.writing.proofs.Putting.{then}
+use Rattle.holiday_lines.proofs.words.put_word.Needs as need
+
+pub returns : need.returns
+returns c = then (c .put-bytes-next .ensures .bytes) (c .put-bytes .ensures .bytes)
