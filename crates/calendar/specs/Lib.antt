@@ -1,3 +1,4 @@
 pub mod Dates
 pub mod Weeks
 pub mod Kinds
+pub mod Words

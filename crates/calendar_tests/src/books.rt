@@ -6,9 +6,6 @@ use computed_book::book::ComputedDayBook;
 use day_books::dated::DatedKind;
 use day_books::listed::ListedBook;
 use day_books::listed::ListedDayBook;
-use refusals::Refusal;
-use refusals::RefusalDebug;
-use refusals::RefusalPartialEq;
 use std::test::*;
 
 // Year, month, day of the month, kind: days of 2021 and 2023 that were no substitutes, and days that are none.
@@ -47,9 +44,12 @@ fn told<B: DayBook>(book: &B, day: u32) -> u8 {
 fn announced_holidays_are_computed() -> Result<(), Fail> {
     for row in HOLIDAYS.iter() {
         let (year, month, of_month, kind) = *row;
-        check_eq(told(&ComputedBook, join(year, month, of_month)?), kind)?;
+        let Ok(day) = join(year, month, of_month) else {
+            return Err(Fail::new("a date of the table"));
+        };
+        check(told(&ComputedBook, day) == kind)?;
     }
-    check_eq(told(&ComputedBook, 73_049), 0)
+    check(told(&ComputedBook, 73_049) == 0)
 }
 
 #[test]
@@ -60,9 +60,12 @@ fn first_entry_of_a_day_decides() -> Result<(), Fail> {
     check(book.add(8036, 9).is_ok())?;
     check(book.add(8140, 3).is_ok())?;
     check(book.add(73_049, 1).is_ok())?;
-    check_eq(book.add(8143, 3), Err(Refusal::TooShort))?;
-    check_eq(told(&book, 8140), 2)?;
-    check_eq(told(&book, 8036), 0)?;
-    check_eq(told(&book, 8143), 0)?;
-    check_eq(told(&book, 73_049), 0)
+    match book.add(8143, 3) {
+        Ok(()) => return Err(Fail::new("the list is full")),
+        Err(refusal) => check(refusal.number() == 44)?,
+    }
+    check(told(&book, 8140) == 2)?;
+    check(told(&book, 8036) == 0)?;
+    check(told(&book, 8143) == 0)?;
+    check(told(&book, 73_049) == 0)
 }

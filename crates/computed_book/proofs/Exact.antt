@@ -10,10 +10,11 @@ use Rattle.std.specs.Orderings.{Decides}
 use Rattle.std.proofs.shelf.Tests.{cases-lt, cond-true, le-leb, leb-true, lt-ltb, ltb-true, eqb-true, eq-eqb, and-parts, and-from}
 use Rattle.std.proofs.shelf.Ways.{tells}
 use Rattle.calendar.specs.Dates.{last-day, leap, leaps, year-start, lengths, month-start, day-number, Valid, Dated, date-of}
+use Rattle.calendar.specs.Words.{Exactly}
 use Rattle.calendar.specs.Weeks.{weekday-of}
 use Rattle.computed_book.specs.Easters.{easter-of, Paschal}
 use Rattle.computed_book.specs.Rules.{first-kind, holidays, kind-on, computed-kind}
-use Rattle.computed_book.specs.Words.{Exactly, On, Monday, FirstMonday, LastMonday, BeforeEaster, AfterEaster, Holidays}
+use Rattle.computed_book.specs.Words.{On, Monday, FirstMonday, LastMonday, BeforeEaster, AfterEaster, Holidays}
 use Rattle.calendar.proofs.Years.{leaps-next, same-year, year-le}
 use Rattle.calendar.proofs.Months.{month-more, month-le, month-end, year-length}
 use Rattle.calendar.proofs.Turns.{in-year, in-month, day-of-year, dated-le, one-year, one-month, one-day}

@@ -1,6 +1,5 @@
 -- The holidays in words: what it is for a day to be each of them. Assumes nothing.
 --
---   Exactly A B       A holds where B does, and nowhere else
 --   On day m d        the day is that date of some year
 --   FirstMonday       it is a Monday of the month, and no Monday of that month comes before it
 --   LastMonday        it is a Monday of the month, and no Monday of that month comes after it
@@ -8,12 +7,10 @@
 --   Holidays day k    the kind k, a number, is each holiday's exactly on its day
 use mathlib.Core.Path.{_≡_}
 use Prim.Native.Nat.{ℕ, _+_, _<_, _≤_}
+use Rattle.calendar.specs.Words.{Exactly}
 use Rattle.calendar.specs.Dates.{Dated}
 use Rattle.calendar.specs.Weeks.{weekday-of}
 use Rattle.computed_book.specs.Easters.{easter-of}
-
-abbrev pub Exactly : Type 0 → Type 0 → Type 0
-Exactly A B = (A → B) × (B → A)
 
 abbrev pub On : ℕ → ℕ → ℕ → Type 0
 On day m d = (y : ℕ) × Dated day y m d

@@ -13,7 +13,8 @@ use Rattle.std.proofs.shelf.Lists.{drop-more}
 use Rattle.std.proofs.shelf.Tests.{cond-true, cond-both, ltb-true, lt-ltb}
 use Rattle.calendar.specs.Dates.{day-number}
 use Rattle.holiday_lines.specs.Texts.{is-holiday, holidays-from}
-use Rattle.holiday_lines.specs.Words.{Exactly, Climbs, Told}
+use Rattle.calendar.specs.Words.{Exactly}
+use Rattle.holiday_lines.specs.Words.{Climbs, Told}
 use Rattle.holiday_lines.proofs.Named.{names}
 
 module _ {X : Type 0} (p : X → Bool) where

@@ -12,7 +12,8 @@ use Rattle.std.proofs.shelf.Tests.{eqb-true}
 use Rattle.std.proofs.shelf.Ways.{tells}
 use Rattle.writing.specs.Puts.{padded}
 use Rattle.holiday_lines.specs.Reads.{digit, number-of, in-calendar, year-of, year-read}
-use Rattle.holiday_lines.specs.Words.{Exactly, Names}
+use Rattle.calendar.specs.Words.{Exactly}
+use Rattle.holiday_lines.specs.Words.{Names}
 
 abbrev test : ℕ → ℕ → ℕ → ℕ → Bool
 test a b c d = digit a && digit b && (digit c && digit d) && in-calendar (number-of a b c d)

@@ -1,6 +1,5 @@
 -- What the text of a year is, in words. Assumes nothing.
 --
---   Exactly A B    A holds where B does, and nowhere else
 --   Climbs         each day of a list comes before every day behind it
 --   Names line y   the line is the four digits of a year of the calendar
 --   Told kind      of every line and every year: which year a line names, in which order the lines of its holidays stand,
@@ -10,13 +9,11 @@ use mathlib.Core.List.{List, [], _∷_}
 use Prim.Native.Nat.{ℕ, _<_, _≤_}
 use Rattle.std.specs.shelf.Lists.{All, Has}
 use Rattle.std.specs.declared.option.Option.the-variants.{Some}
+use Rattle.calendar.specs.Words.{Exactly}
 use Rattle.calendar.specs.Dates.{day-number}
 use Rattle.writing.specs.Puts.{padded}
 use Rattle.holiday_lines.specs.Reads.{year-read}
 use Rattle.holiday_lines.specs.Texts.{holidays-of}
-
-abbrev pub Exactly : Type 0 → Type 0 → Type 0
-Exactly A B = (A → B) × (B → A)
 
 abbrev pub Climbs : List ℕ → Type 0
 Climbs [] = Unit {0}

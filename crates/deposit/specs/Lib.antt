@@ -1,0 +1,3 @@
+pub mod Deposit
+pub mod Codes
+pub mod Tables

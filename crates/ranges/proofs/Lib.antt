@@ -1,0 +1,2 @@
+pub mod Visibles
+pub mod Decided

@@ -1,0 +1,3 @@
+pub mod Nones
+pub mod Walks
+pub mod Decided
