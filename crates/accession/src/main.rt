@@ -1,4 +1,6 @@
 // Prints the verdict on the sample deposit and on each of the broken ones, in the order of the rules.
+#![tactic(auto)]
+
 ghost use Rattle.std.specs.Prelude.{◌≡◌, ◌≤◌, length, take};
 ghost use Rattle.deposit.specs.Tables.{tables_mean};
 ghost use Rattle.profile.specs.Verdict.{verdict};

@@ -1,4 +1,6 @@
 // Tests of the calendar layers against published tables. The library itself has nothing.
+#![tactic(auto)]
+
 #[cfg(test)]
 mod books;
 #[cfg(test)]

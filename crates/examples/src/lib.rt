@@ -1,4 +1,6 @@
 // The worked examples, proved of the definitions that the contracts cite: one table, checked as a whole.
+#![tactic(auto)]
+
 ghost use Rattle.examples.specs.Examples.{Examples};
 
 /// Every worked example holds.

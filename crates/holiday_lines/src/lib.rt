@@ -1,4 +1,6 @@
 // The holidays of a year as text, one line for each.
+#![tactic(auto)]
+
 ghost use Rattle.std.specs.Prelude.{◌<◌, ◌≤◌};
 ghost use Rattle.lines.specs.Texts.{Written};
 ghost use Rattle.holiday_lines.specs.Texts.{holidays_of, lines_of, year_text};

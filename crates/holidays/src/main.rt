@@ -1,4 +1,6 @@
 // Prints the holidays of each year that standard input names, one year a line. Lines past the sixty-fourth are not read.
+#![tactic(auto)]
+
 ghost use Rattle.std.specs.Prelude.{◌≡◌, ◌≤◌, length, take};
 ghost use Rattle.computed_book.specs.Rules.{computed_kind};
 ghost use Rattle.holiday_lines.specs.Texts.{year_text};

@@ -1,4 +1,6 @@
 // Lines of text, written into buffers that their owner lends.
+#![tactic(auto)]
+
 ghost use Rattle.lines.specs.Texts.{refused_text, Written};
 
 use refusals::Refusal;

@@ -1,4 +1,6 @@
 // Tests of the profile at the edges of every rule, on both sides. The library itself has nothing.
+#![tactic(auto)]
+
 #[cfg(test)]
 mod counts;
 #[cfg(test)]

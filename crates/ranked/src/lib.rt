@@ -1,4 +1,6 @@
 // Rows in rank order, in a slice that its owner lends: written once for every row that has a rank.
+#![tactic(auto)]
+
 ghost use Rattle.std.specs.Prelude.{◌≡◌, Bool, true, ◌||◌, ◌∷◌, take, IfOk};
 ghost use Rattle.std.specs.List.Sorted.{IsPermutation};
 ghost use Rattle.ranked.specs.Placing.{Inserted, in_order, later_behind, place};

@@ -1,4 +1,6 @@
 // Every reason for which a call of the archive does not do what it was asked.
+#![tactic(auto)]
+
 ghost use Rattle.std.specs.Prelude.{◌≡◌};
 ghost use Rattle.refusals.specs.Numbers.{told, told_bytes, place_of, kind_number, rule_number};
 

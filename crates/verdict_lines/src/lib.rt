@@ -1,4 +1,6 @@
 // The line that tells the verdict on a deposit.
+#![tactic(auto)]
+
 ghost use Rattle.std.specs.Prelude.{◌≡◌, ◌+◌, ◌≤◌, length};
 ghost use Rattle.lines.specs.Texts.{Written};
 ghost use Rattle.writing.specs.Puts.{Put};

@@ -1,4 +1,6 @@
 // Bytes and decimal digits, written one after another into bytes that their owner lends.
+#![tactic(auto)]
+
 ghost use Rattle.std.specs.Prelude.{◌≡◌, ◌+◌, ◌≤◌, length, decimal};
 ghost use Rattle.writing.specs.Puts.{Put, padded};
 
