@@ -60,7 +60,7 @@ def turned(text, table):
     return WORD.sub(lambda m: table.get(m[0], m[0]), text)
 
 
-CLAUSE = re.compile(r"ghost\s+use\b[^;]*;|//[^\n]*|\b(?:requires|ensures|ghost)\b\s*\*?\s*[\w«»]*\s*:?\s*\{")
+CLAUSE = re.compile(r"ghost\s+use\b[^;]*;|//[^\n]*|\b(?:requires|ensures|ghost)\b\s*\*?\s*[\w«»]*\s*[:=]?\s*\{")
 
 
 def turned_source(text, table):

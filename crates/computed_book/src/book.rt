@@ -75,11 +75,11 @@ fn first_kind(
 pub struct ComputedBook;
 
 impl DayBook for ComputedBook {
-    ghost kind_of = { λ _ day. computed-kind day };
+    ghost kind_of = { λ _ day. computed_kind day };
 
-    ghost few = { λ _ day. computed-few day };
+    ghost few = { λ _ day. computed_few day };
 
-    ghost ends = { λ _ day. computed-ends day };
+    ghost ends = { λ _ day. computed_ends day };
 
     fn kind(&self, day: u32) -> Option<HolidayKind>
         ensures meaning { told_kind result ≡ computed_kind day }

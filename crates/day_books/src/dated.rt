@@ -13,7 +13,7 @@ pub struct DatedKind {
 
 /// Entries rank by their days.
 impl Rank for DatedKind {
-    ghost no_later = { no-later };
+    ghost no_later = { no_later };
 
     ghost total = { Prim.search rules };
 

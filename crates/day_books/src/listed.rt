@@ -68,11 +68,11 @@ fn first_kind(entries: &[DatedKind], day: u32) -> u8
 
 /// The first entry of a day decides, also one whose number is no kind; past the calendar no day is a holiday.
 impl<'a> DayBook for ListedBook<'a> {
-    ghost kind_of = { book-kind };
+    ghost kind_of = { book_kind };
 
-    ghost few = { book-few };
+    ghost few = { book_few };
 
-    ghost ends = { book-ends };
+    ghost ends = { book_ends };
 
     fn kind(&self, day: u32) -> Option<HolidayKind> {
         if day > LAST_DAY {

@@ -29,7 +29,7 @@ pub struct Tables<'a, 't> {
 }
 
 impl Carrier for Tables<'_, '_> {
-    ghost meaning = { tables-mean };
+    ghost meaning = { tables_mean };
 
     fn count(&self, kind: Kind) -> usize {
         match kind {

@@ -23,10 +23,10 @@ pub trait Rank {
 /// Puts `row` among the first `count` rows, behind every one that ranks no later, and tells how many there are then.
 /// A list with no row behind the first `count` refuses with 44.
 pub fn insert<R: Rank + Copy>(rows: &mut [R], count: usize, row: R) -> Result<usize, Refusal>
-    ensures rows { Inserted no_later row count rows.old rows.new result }
-    ensures order { in_order no_later (take count rows.old) ≡ true → IfOk result (λ n. in_order no_later (take n rows.new) ≡ true) }
+    ensures rows { Inserted R.no_later row count rows.old rows.new result }
+    ensures order { in_order R.no_later (take count rows.old) ≡ true → IfOk result (λ n. in_order R.no_later (take n rows.new) ≡ true) }
     ensures holds { IfOk result (λ n. IsPermutation (row ∷ take count rows.old) (take n rows.new)) }
-    ensures behind { IfOk result (λ n. later_behind no_later row (place no_later row (take count rows.old)) (take n rows.new) ≡ true) }
+    ensures behind { IfOk result (λ n. later_behind R.no_later row (place R.no_later row (take count rows.old)) (take n rows.new) ≡ true) }
 {
     if count >= rows.len() {
         return Err(Refusal::TooShort);

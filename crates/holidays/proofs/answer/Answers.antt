@@ -14,8 +14,8 @@ returns-in-Ok c =
       bytes = λ _. front_is text c.args.out.now c.year_text.new.out c.in-Ok.length told;
     }
 
-pub returns-in-Ok-refused-line : goal.returns-in-Ok-refused-line
-returns-in-Ok-refused-line c = record {
-  counted = front_le (refused_text c.in-Err.refusal) c.year_text.new.out c.refused-line.new.line c.in-Ok-refused-line.length c.in-Ok-refused-line.ensures.answer;
+pub returns-in-Ok-refused_line : goal.returns-in-Ok-refused_line
+returns-in-Ok-refused_line c = record {
+  counted = front_le (refused_text c.in-Err.refusal) c.year_text.new.out c.refused_line.new.line c.in-Ok-refused_line.length c.in-Ok-refused_line.ensures.answer;
   bytes = λ fits. absurd (omega (arith, fits, c.in-Err.ensures.answer.1));
 }

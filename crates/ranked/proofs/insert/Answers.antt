@@ -4,22 +4,22 @@ use Rattle.ranked.specs.Placing.{place, placed, in_order, later_behind}
 use Rattle.ranked.proofs.Places.{start, again, found_first, found_behind, written, front}
 use Rattle.ranked.proofs.Order.{inserted_shuffled, placed_in_order, placed_later_behind}
 use Rattle.ranked.proofs.insert.Goals as goal
-use Rattle.ranked.proofs.insert.Goals.{else-loop-at-test, then-loop-at-test+then-ranks-no-later}
+use Rattle.ranked.proofs.insert.Goals.{else-loop-at-test, then-loop-at-test+then-ranks_no_later}
 
 pub loop-at-init : goal.loop-at-init
 loop-at-init g c = search (rules, start)
 
 pub loop-at-preserved : goal.loop-at-preserved
-loop-at-preserved g c = let f = c.if-ranks-no-later.ensures in search (rules, again)
+loop-at-preserved g c = let f = c.if-ranks_no_later.ensures in search (rules, again)
 
 place_is : (g : _) (c : goal.Left-loop-at g) → place g.R.Rank.no_later c.args.row (take c.args.count c.args.rows.now) ≡ c.loop-at.at
 place_is g c =
     elim c.loop-at-test.branch [
       | else-loop-at-test w ↦ search (rules, found_first)
-      | then-loop-at-test+then-ranks-no-later w ↦
+      | then-loop-at-test+then-ranks_no_later w ↦
           found_behind g.R.Rank.no_later c.args.row c.args.rows.now c.args.count (omega arith)
           (c.loop-at.at - 1) c.loop-at.at c.loop-at.rows w.index-rows-at.result (omega (arith, w.loop-at-test.true)) c.loop-at.invariant w.index-rows-at.is
-          w.if-ranks-no-later.ensures
+          w.if-ranks_no_later.ensures
     ]
 
 pub returns : goal.returns

@@ -12,5 +12,5 @@ returns-then-line-rest-2 c = record { answer = (refl, omega (arith, length-text 
 
 pub returns : goal.returns
 returns c = record {
-  answer = put_front (then c.put-bytes-colon.ensures.bytes (then c.put-bytes-words.ensures.bytes (then c.put-words-end.ensures c.put-bytes.ensures.bytes)));
+  answer = put_front (then c.put_bytes-colon.ensures.bytes (then c.put_bytes-words.ensures.bytes (then c.put_words-end.ensures c.put_bytes.ensures.bytes)));
 }

@@ -3,8 +3,8 @@ use Rattle.std.proofs.lemmas.Fmt.{length-decimal-le}
 use Rattle.writing.proofs.Padding.{length-step, length-digit}
 use Rattle.writing.proofs.number_length.Goals as goal
 
-pub overflow-add-length : goal.overflow-add-length
-overflow-add-length c =
+pub overflow_add-length : goal.overflow_add-length
+overflow_add-length c =
     let few : length (decimal c.args.number) ≤ 10 = length-decimal-le 10 c.args.number (omega arith) (omega arith) (omega arith) in
     omega arith
 

@@ -7,4 +7,4 @@ use Rattle.writing.proofs.put_number.Goals as goal
 pub returns : goal.returns
 returns c =
     let n = c.args.number in
-    record { bytes = put_as (ap (λ w. padded w n) c.number-length.ensures.value ∙ padded_decimal n (omega arith)) c.put-digits.ensures.bytes }
+    record { bytes = put_as (ap (λ w. padded w n) c.number_length.ensures.value ∙ padded_decimal n (omega arith)) c.put_digits.ensures.bytes }

@@ -5,13 +5,13 @@ use Rattle.calendar.proofs.Months.{start_le}
 use Rattle.calendar.proofs.Turns.{join_dated, splits_back}
 use Rattle.calendar.proofs.dates.join.Goals as goal
 
-pub overflow-add-result : goal.overflow-add-result
-overflow-add-result c = omega (arith, year_le c.from.result (omega arith), start_le c.is-leap-leap-year.result c.args.month)
+pub overflow_add-result : goal.overflow_add-result
+overflow_add-result c = omega (arith, year_le c.from.result (omega arith), start_le c.is_leap-leap_year.result c.args.month)
 
-pub overflow-add-result-2 : goal.overflow-add-result-2
-overflow-add-result-2 c = omega (arith, year_le c.from.result (omega arith), start_le c.is-leap-leap-year.result c.args.month)
+pub overflow_add-result-2 : goal.overflow_add-result-2
+overflow_add-result-2 c = omega (arith, year_le c.from.result (omega arith), start_le c.is_leap-leap_year.result c.args.month)
 
-valid : (c : goal.After-from-2) → Valid c.args.year c.args.month c.args.of-month
+valid : (c : goal.After-from-2) → Valid c.args.year c.args.month c.args.of_month
 valid c = record {
   year_from = omega arith;
   year_to = omega arith;
@@ -19,16 +19,16 @@ valid c = record {
   month_to = omega arith;
   day_from = omega arith;
   day_to =
-      let e = ap (λ l. get_or (lengths l) (c.args.month - 1) 0) c.is-leap-leap-year.ensures in
-      omega (arith, e, c.days-in-month.ensures);
+      let e = ap (λ l. get_or (lengths l) (c.args.month - 1) 0) c.is_leap-leap_year.ensures in
+      omega (arith, e, c.days_in_month.ensures);
 }
 
-dated : (c : goal.After-from-2) → Dated ((c.days-before-year-before-year.result + c.days-before-month-before-month.result + c.from-2.result) - 1) c.args.year c.args.month c.args.of-month
+dated : (c : goal.After-from-2) → Dated ((c.days_before_year-before_year.result + c.days_before_month-before_month.result + c.from-2.result) - 1) c.args.year c.args.month c.args.of_month
 dated c =
-    join_dated c.args.year c.args.month c.args.of-month c.days-before-year-before-year.result c.days-before-month-before-month.result c.from-2.result (valid c)
-    (c.days-before-year-before-year.ensures ∙ ap year_start c.from.ensures)
-    (c.days-before-month-before-month.ensures ∙ ap (λ l. month_start l c.args.month) c.is-leap-leap-year.ensures)
+    join_dated c.args.year c.args.month c.args.of_month c.days_before_year-before_year.result c.days_before_month-before_month.result c.from-2.result (valid c)
+    (c.days_before_year-before_year.ensures ∙ ap year_start c.from.ensures)
+    (c.days_before_month-before_month.ensures ∙ ap (λ l. month_start l c.args.month) c.is_leap-leap_year.ensures)
     c.from-2.ensures
 
 pub returns : goal.returns
-returns c = record { answer = dated c; back = splits_back _ c.args.year c.args.month c.args.of-month (dated c) }
+returns c = record { answer = dated c; back = splits_back _ c.args.year c.args.month c.args.of_month (dated c) }

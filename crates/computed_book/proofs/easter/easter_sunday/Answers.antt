@@ -4,5 +4,5 @@ use Rattle.computed_book.proofs.easter.easter_sunday.Goals as goal
 
 pub returns : goal.returns
 returns c =
-    let t = easter_told c.args.year c.easter-date-month.result c.join.result c.easter-date-month.ensures (omega arith) (omega arith) c.join.ensures.answer in
+    let t = easter_told c.args.year c.easter_date-month.result c.join.result c.easter_date-month.ensures (omega arith) (omega arith) c.join.ensures.answer in
     record { answer = t.0; feast = t.1 }

@@ -10,8 +10,8 @@ use Rattle.encoding.proofs.deposits.put_kind.Goals as goal
 pub loop-row-init : goal.loop-row-init
 loop-row-init g c = put_none c.args.out.now c.args.at (omega (arith, c.requires.room))
 
-pub put-row-next-requires : goal.put-row-next-requires
-put-row-next-requires g c =
+pub put_row-next-requires : goal.put_row-next-requires
+put_row-next-requires g c =
     let d = g.C.Carrier.meaning c.args.c.now in
     let within : c.loop-row.row < count_of d c.args.kind = omega (arith, c.count-row-end.ensures) in
     record {
@@ -24,7 +24,7 @@ pub loop-row-preserved : goal.loop-row-preserved
 loop-row-preserved g c =
     let d = g.C.Carrier.meaning c.args.c.now in
     let within : c.loop-row.row < count_of d c.args.kind = omega (arith, c.count-row-end.ensures) in
-    put_as (sym (kind_more d c.args.kind c.loop-row.row within)) (then c.loop-row.invariant c.put-row-next.ensures)
+    put_as (sym (kind_more d c.args.kind c.loop-row.row within)) (then c.loop-row.invariant c.put_row-next.ensures)
 
 pub returns : goal.returns
 returns g c =

@@ -9,8 +9,8 @@ use Rattle.encoding.proofs.deposits.put_kinds.Goals as goal
 pub loop-kind-init : goal.loop-kind-init
 loop-kind-init g c = put_none c.args.out.now c.args.at (omega (arith, c.requires.room))
 
-pub put-kind-next-requires : goal.put-kind-next-requires
-put-kind-next-requires g c =
+pub put_kind-next-requires : goal.put_kind-next-requires
+put_kind-next-requires g c =
     let d = g.C.Carrier.meaning c.args.c.now in
     record {
       fit = c.requires.fit;
@@ -20,7 +20,7 @@ put-kind-next-requires g c =
 pub loop-kind-preserved : goal.loop-kind-preserved
 loop-kind-preserved g c =
     let d = g.C.Carrier.meaning c.args.c.now in
-    put_as (sym (rows_more d c.args.kinds.now c.loop-kind.kind-index kinds.Head (omega arith))) (then c.loop-kind.invariant c.put-kind-next.ensures)
+    put_as (sym (rows_more d c.args.kinds.now c.loop-kind.kind-index kinds.Head (omega arith))) (then c.loop-kind.invariant c.put_kind-next.ensures)
 
 pub returns : goal.returns
 returns g c =

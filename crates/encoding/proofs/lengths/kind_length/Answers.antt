@@ -6,16 +6,16 @@ use Rattle.layout.specs.Writing.{bodies, fields_of}
 use Rattle.encoding.proofs.FieldLists.{kind_long, bodies_count}
 use Rattle.encoding.proofs.lengths.kind_length.Goals as goal
 
-pub overflow-add-total : goal.overflow-add-total
-overflow-add-total g c =
+pub overflow_add-total : goal.overflow_add-total
+overflow_add-total g c =
     let few = c.requires.few c.args.kind in
-    record { fits = omega (arith, c.loop-row.invariant.1, c.row-length-total.ensures.few, few, c.count-row-end.ensures) }
+    record { fits = omega (arith, c.loop-row.invariant.1, c.row_length-total.ensures.few, few, c.count-row-end.ensures) }
 
 pub loop-row-preserved : goal.loop-row-preserved
 loop-row-preserved g c =
     let d = g.C.Carrier.meaning c.args.c.now in
     let within : c.loop-row.row < count_of d c.args.kind = omega (arith, c.count-row-end.ensures) in
-    (omega (arith, c.loop-row.invariant.0, c.row-length-total.ensures.value, kind_long d c.args.kind c.loop-row.row within), omega (arith, c.loop-row.invariant.1, c.row-length-total.ensures.few))
+    (omega (arith, c.loop-row.invariant.0, c.row_length-total.ensures.value, kind_long d c.args.kind c.loop-row.row within), omega (arith, c.loop-row.invariant.1, c.row_length-total.ensures.few))
 
 pub returns : goal.returns
 returns g c =

@@ -8,7 +8,7 @@ use Rattle.encoding.proofs.lengths.kinds_length.Goals as goal
 pub loop-kind-preserved : goal.loop-kind-preserved
 loop-kind-preserved g c =
     let d = g.C.Carrier.meaning c.args.c.now in
-    (omega (arith, c.loop-kind.invariant.0, c.kind-length-total.ensures.value, rows_long d c.args.kinds.now c.loop-kind.kind-index kinds.Head (omega arith)), omega (arith, c.loop-kind.invariant.1, c.kind-length-total.ensures.few))
+    (omega (arith, c.loop-kind.invariant.0, c.kind_length-total.ensures.value, rows_long d c.args.kinds.now c.loop-kind.kind-index kinds.Head (omega arith)), omega (arith, c.loop-kind.invariant.1, c.kind_length-total.ensures.few))
 
 pub returns : goal.returns
 returns g c =

@@ -2,18 +2,18 @@ use Rattle.std.proofs.Common.{arith}
 use Rattle.encoding.proofs.Ranged.{head_sized, line_sized, stop_sized, journey_sized}
 use Rattle.encoding.proofs.lengths.row_length.Goals as goal
 
-pub overflow-add-result-in-Line-2 : goal.overflow-add-result-in-Line-2
-overflow-add-result-in-Line-2 g c =
+pub overflow_add-result-in-Line-2 : goal.overflow_add-result-in-Line-2
+overflow_add-result-in-Line-2 g c =
     let s = line_sized _ c.requires.fit c.args.row c.args.kind c.in-Line.is c.requires.within c.line-line.result c.line-line.ensures in
     record { fits = omega (arith, s.short) }
 
-pub overflow-add-result-in-Line-3 : goal.overflow-add-result-in-Line-3
-overflow-add-result-in-Line-3 g c =
+pub overflow_add-result-in-Line-3 : goal.overflow_add-result-in-Line-3
+overflow_add-result-in-Line-3 g c =
     let s = line_sized _ c.requires.fit c.args.row c.args.kind c.in-Line.is c.requires.within c.line-line.result c.line-line.ensures in
     record { fits = omega (arith, s.short) }
 
-pub overflow-add-result-in-Stop-2 : goal.overflow-add-result-in-Stop-2
-overflow-add-result-in-Stop-2 g c =
+pub overflow_add-result-in-Stop-2 : goal.overflow_add-result-in-Stop-2
+overflow_add-result-in-Stop-2 g c =
     let s = stop_sized _ c.requires.fit c.args.row c.args.kind c.in-Stop.is c.requires.within c.stop-stop.result c.stop-stop.ensures in
     record { fits = omega (arith, s.short) }
 

@@ -6,4 +6,4 @@ use Rattle.encoding.proofs.RowLengths.{length-head}
 use Rattle.encoding.proofs.rows.put_head.Goals as goal
 
 pub returns : goal.returns
-returns c = in_field (sym (length-head (head_of c.args.row))) c.put-tag-service.ensures (then c.put-text-numbers.ensures c.put-head-numbers.ensures)
+returns c = in_field (sym (length-head (head_of c.args.row))) c.put_tag-service.ensures (then c.put_text-numbers.ensures c.put_head_numbers.ensures)

@@ -6,4 +6,4 @@ use Rattle.encoding.proofs.RowLengths.{length-journey}
 use Rattle.encoding.proofs.rows.put_journey.Goals as goal
 
 pub returns : goal.returns
-returns c = in_field (sym (length-journey (journey_of c.args.row))) c.put-tag-code.ensures (then c.put-text-numbers.ensures c.put-journey-numbers.ensures)
+returns c = in_field (sym (length-journey (journey_of c.args.row))) c.put_tag-code.ensures (then c.put_text-numbers.ensures c.put_journey_numbers.ensures)

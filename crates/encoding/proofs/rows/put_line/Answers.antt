@@ -6,4 +6,4 @@ use Rattle.encoding.proofs.RowLengths.{length-line}
 use Rattle.encoding.proofs.rows.put_line.Goals as goal
 
 pub returns : goal.returns
-returns c = in_field (sym (length-line (line_of c.args.row))) c.put-tag-name.ensures (then c.put-text-outbound.ensures (then c.put-text-inbound.ensures c.put-text.ensures))
+returns c = in_field (sym (length-line (line_of c.args.row))) c.put_tag-name.ensures (then c.put_text-outbound.ensures (then c.put_text-inbound.ensures c.put_text.ensures))

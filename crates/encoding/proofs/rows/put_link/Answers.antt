@@ -5,4 +5,4 @@ use Rattle.encoding.proofs.rows.put_link.Goals as goal
 
 pub returns : goal.returns
 returns c =
-    in_field refl c.put-tag-from.ensures (then c.put-u16-to.ensures (then c.put-u16-run.ensures (then c.put-u32-from-wait.ensures (then c.put-u32-to-wait.ensures (then c.put-u32-from-activity.ensures (then c.put-byte-to-activity.ensures c.put-byte.ensures))))))
+    in_field refl c.put_tag-from.ensures (then c.put_u16-to.ensures (then c.put_u16-run.ensures (then c.put_u32-from_wait.ensures (then c.put_u32-to_wait.ensures (then c.put_u32-from_activity.ensures (then c.put_byte-to_activity.ensures c.put_byte.ensures))))))

@@ -5,4 +5,4 @@ use Rattle.encoding.proofs.rows.put_override.Goals as goal
 
 pub returns : goal.returns
 returns c =
-    in_field refl c.put-tag-position.ensures (then c.put-u16-run.ensures (then c.put-given-u32-from-wait.ensures (then c.put-given-u32-to-wait.ensures c.put-given-u32.ensures)))
+    in_field refl c.put_tag-position.ensures (then c.put_u16-run.ensures (then c.put_given_u32-from_wait.ensures (then c.put_given_u32-to_wait.ensures c.put_given_u32.ensures)))

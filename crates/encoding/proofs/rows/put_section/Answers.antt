@@ -5,4 +5,4 @@ use Rattle.encoding.proofs.rows.put_section.Goals as goal
 
 pub returns : goal.returns
 returns c =
-    in_field refl c.put-tag-first.ensures (then c.put-u16-count.ensures c.put-u16.ensures)
+    in_field refl c.put_tag-first.ensures (then c.put_u16-count.ensures c.put_u16.ensures)

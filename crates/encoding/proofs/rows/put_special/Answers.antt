@@ -5,4 +5,4 @@ use Rattle.encoding.proofs.rows.put_special.Goals as goal
 
 pub returns : goal.returns
 returns c =
-    in_field refl c.put-tag-first.ensures (then c.put-u32-last.ensures (then c.put-u32-runs.ensures c.put-byte.ensures))
+    in_field refl c.put_tag-first.ensures (then c.put_u32-last.ensures (then c.put_u32-runs.ensures c.put_byte.ensures))

@@ -6,4 +6,4 @@ use Rattle.encoding.proofs.RowLengths.{length-stop}
 use Rattle.encoding.proofs.rows.put_stop.Goals as goal
 
 pub returns : goal.returns
-returns c = in_field (sym (length-stop (stop_of c.args.row))) c.put-tag-code.ensures (then c.put-text-name.ensures c.put-text.ensures)
+returns c = in_field (sym (length-stop (stop_of c.args.row))) c.put_tag-code.ensures (then c.put_text-name.ensures c.put_text.ensures)

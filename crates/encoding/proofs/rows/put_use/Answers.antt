@@ -4,4 +4,4 @@ use Rattle.encoding.proofs.rows.put_use.Goals as goal
 
 pub returns : goal.returns
 returns c =
-    in_field refl c.put-tag-section.ensures c.put-u16.ensures
+    in_field refl c.put_tag-section.ensures c.put_u16.ensures

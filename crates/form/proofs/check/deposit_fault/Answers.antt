@@ -4,8 +4,8 @@ use Rattle.form.specs.Look.{deposit_fault}
 use Rattle.form.proofs.Exact.{told_at}
 use Rattle.form.proofs.check.deposit_fault.Goals as goal
 
-pub returns-then-not-is-whole : goal.returns-then-not-is-whole
-returns-then-not-is-whole c =
+pub returns-then-not-is_whole : goal.returns-then-not-is_whole
+returns-then-not-is_whole c =
     let e : Some (Overruns c.args.place) ≡ deposit_fault c.args.place c.args.bytes.now = search rules in
     record { value = e; told = told_at c.args.place c.args.bytes.now (Some (Overruns c.args.place)) e }
 

@@ -10,7 +10,7 @@ returns c =
     ap length (c.name-weekday.ensures.value ∙ sym (weekday_word_is c.of.result c.args.day c.of.ensures.value))
     in
     let name : length c.name-name.result.now ≡ length (kind_word (kind_number c.args.kind)) = ap length (c.name-name.ensures.value ∙ sym (kind_word_is c.args.kind)) in
-    let number : c.number-length-2.result ≡ length (decimal (kind_number c.args.kind)) = c.number-length-2.ensures.value ∙ ap (λ n. length (decimal n)) c.number.ensures.value in
+    let number : c.number_length-2.result ≡ length (decimal (kind_number c.args.kind)) = c.number_length-2.ensures.value ∙ ap (λ n. length (decimal n)) c.number.ensures.value in
     record {
       value = omega (arith, length-line c.args.day (kind_number c.args.kind));
       few = omega (arith, ap length c.name-weekday.ensures.value, ap length c.name-name.ensures.value, weekday_name_le c.of.result, kind_name_le c.args.kind);

@@ -2,4 +2,4 @@ use Rattle.writing.proofs.Putting.{then}
 use Rattle.holiday_lines.proofs.words.put_count.Goals as goal
 
 pub returns : goal.returns
-returns c = then c.put-bytes-next.ensures.bytes c.put-number.ensures.bytes
+returns c = then c.put_bytes-next.ensures.bytes c.put_number.ensures.bytes

@@ -2,4 +2,4 @@ use Rattle.writing.proofs.Putting.{then}
 use Rattle.holiday_lines.proofs.words.put_word.Goals as goal
 
 pub returns : goal.returns
-returns c = then c.put-bytes-next.ensures.bytes c.put-bytes.ensures.bytes
+returns c = then c.put_bytes-next.ensures.bytes c.put_bytes.ensures.bytes

@@ -8,15 +8,15 @@ use Rattle.pieces.proofs.write.put_hex.Goals as goal
 pub loop-i-init : goal.loop-i-init
 loop-i-init c = put_none c.args.out.now c.args.at (omega (arith, c.requires))
 
-pub put-bytes-next-requires : goal.put-bytes-next-requires
-put-bytes-next-requires c =
+pub put_bytes-next-requires : goal.put_bytes-next-requires
+put_bytes-next-requires c =
     omega (arith, c.requires, hex_room c.args.bytes.now c.loop-i.i c.loop-i-test.true, c.loop-i.invariant.next, c.loop-i.auto.out)
 
 pub loop-i-preserved : goal.loop-i-preserved
 loop-i-preserved c =
-    let first = ap (λ x. 32 ∷ x ∷ c.hex-digit-2.result ∷ []) c.hex_digit.ensures in
-    let second = ap (λ x. 32 ∷ hex_digit _ ∷ x ∷ []) c.hex-digit-2.ensures in
-    put_as (sym (hex_more c.args.bytes.now c.loop-i.i c.loop-i-test.true)) (then c.loop-i.invariant (put_as (first ∙ second) c.put-bytes-next.ensures.bytes))
+    let first = ap (λ x. 32 ∷ x ∷ c.hex_digit-2.result ∷ []) c.hex_digit.ensures in
+    let second = ap (λ x. 32 ∷ hex_digit _ ∷ x ∷ []) c.hex_digit-2.ensures in
+    put_as (sym (hex_more c.args.bytes.now c.loop-i.i c.loop-i-test.true)) (then c.loop-i.invariant (put_as (first ∙ second) c.put_bytes-next.ensures.bytes))
 
 pub returns : goal.returns
 returns c = put_as (ap hex_text (take_all c.loop-i.i c.args.bytes.now c.loop-i-test.false)) c.loop-i.invariant

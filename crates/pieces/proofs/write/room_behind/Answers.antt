@@ -6,4 +6,4 @@ use Rattle.pieces.proofs.write.room_behind.Goals as goal
 pub returns-in-Hex : goal.returns-in-Hex
 returns-in-Hex c =
     let long : length (piece_text c.args.piece) ≡ 3 * length c.in-Hex.bytes.now = ap (λ p. length (piece_text p)) c.in-Hex.is ∙ length-hex c.in-Hex.bytes.now in
-    subst (λ n. MatchOption c.hex-room-behind.result (c.args.room < n) (λ left. left + n ≡ c.args.room)) (sym long) c.hex-room-behind.ensures
+    subst (λ n. MatchOption c.hex_room_behind.result (c.args.room < n) (λ left. left + n ≡ c.args.room)) (sym long) c.hex_room_behind.ensures

@@ -6,4 +6,4 @@ use Rattle.profile.proofs.check.rule_fault.Goals as goal
 pub returns : goal.returns
 unfolding rule_fault
 returns g c =
-    c.first-of-kinds.ensures ∙ ap (first_some (row_fault c.args.rule (g.C.Carrier.meaning c.args.c.now))) c.judged-kinds.ensures.rows
+    c.first_of_kinds.ensures ∙ ap (first_some (row_fault c.args.rule (g.C.Carrier.meaning c.args.c.now))) c.judged_kinds.ensures.rows

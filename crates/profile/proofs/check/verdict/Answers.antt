@@ -7,5 +7,5 @@ pub returns : goal.returns
 unfolding verdict
 returns g c =
     let d = g.C.Carrier.meaning c.args.c.now in
-    let v : c.first-of-rules.result ≡ verdict d = c.first-of-rules.ensures in
+    let v : c.first_of_rules.result ≡ verdict d = c.first_of_rules.ensures in
     record { value = v; words = subst (Judged d) (sym v) (judged_verdict d) }

@@ -1,4 +1,4 @@
 use Rattle.rules.proofs.journeys.+leads_to_pattern.Given as goal
 
-abbrev pub decreases-leads-to-pattern : goal.decreases-leads-to-pattern
-decreases-leads-to-pattern g l = l.steps
+abbrev pub decreases-leads_to_pattern : goal.decreases-leads_to_pattern
+decreases-leads_to_pattern g l = l.steps

@@ -10,8 +10,8 @@ pub returns-then-position-least : goal.returns-then-position-least
 returns-then-position-least g c =
     let os = (g.C.Carrier.meaning c.args.c.now).overrides in
     let s = c.loop-span.span in
-    rise_not c.loop-span.least c.from-position.result c.override-row.result (shown s os) (part (s.at + 1) (s.left - 1) os)
-    (shown_at s os c.count-rows.result no_override c.override-row.result c.count-rows.ensures c.loop-span-test.ensures.value c.override-row.ensures)
+    rise_not c.loop-span.least c.from-position.result c.override_row.result (shown s os) (part (s.at + 1) (s.left - 1) os)
+    (shown_at s os c.count-rows.result no_override c.override_row.result c.count-rows.ensures c.loop-span-test.ensures.value c.override_row.ensures)
     c.from-position.ensures c.if-position-least.true
     ∙ sym c.loop-span.invariant
 
@@ -20,8 +20,8 @@ loop-span-preserved g c =
     let os = (g.C.Carrier.meaning c.args.c.now).overrides in
     let s = c.loop-span.span in
     c.loop-span.invariant
-    ∙ rise_more c.loop-span.least c.from-position.result c.override-row.result (shown s os) (part (s.at + 1) (s.left - 1) os)
-    (shown_at s os c.count-rows.result no_override c.override-row.result c.count-rows.ensures c.loop-span-test.ensures.value c.override-row.ensures)
+    ∙ rise_more c.loop-span.least c.from-position.result c.override_row.result (shown s os) (part (s.at + 1) (s.left - 1) os)
+    (shown_at s os c.count-rows.result no_override c.override_row.result c.count-rows.ensures c.loop-span-test.ensures.value c.override_row.ensures)
     c.from-position.ensures c.if-position-least.false
 
 pub returns : goal.returns

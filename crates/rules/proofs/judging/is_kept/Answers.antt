@@ -6,6 +6,6 @@ pub returns : goal.returns
 returns g c =
     let d = g.C.Carrier.meaning c.args.c.now in
     record {
-      value = c.row-keeps.ensures;
-      words = Decides-at c.row-keeps.result _ c.row-keeps.ensures (sound_decides c.args.rule d c.args.kind c.args.row);
+      value = c.row_keeps.ensures;
+      words = Decides-at c.row_keeps.result _ c.row_keeps.ensures (sound_decides c.args.rule d c.args.kind c.args.row);
     }

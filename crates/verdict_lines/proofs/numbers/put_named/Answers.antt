@@ -3,13 +3,13 @@ use Rattle.writing.proofs.Putting.{then, put_length}
 use Rattle.verdict_lines.proofs.Parts.{length-named}
 use Rattle.verdict_lines.proofs.numbers.put_named.Goals as goal
 
-pub put-bytes-next-requires : goal.put-bytes-next-requires
-put-bytes-next-requires c = omega (arith, length-named c.args.word.now c.args.number)
+pub put_bytes-next-requires : goal.put_bytes-next-requires
+put_bytes-next-requires c = omega (arith, length-named c.args.word.now c.args.number)
 
-pub put-decimal-requires : goal.put-decimal-requires
-put-decimal-requires c =
-    let word = c.put-bytes-next.ensures.bytes in
+pub put_decimal-requires : goal.put_decimal-requires
+put_decimal-requires c =
+    let word = c.put_bytes-next.ensures.bytes in
     omega (arith, length-named c.args.word.now c.args.number, put_length word, word.next)
 
 pub returns : goal.returns
-returns c = then c.put-bytes-next.ensures.bytes c.put-decimal.ensures
+returns c = then c.put_bytes-next.ensures.bytes c.put_decimal.ensures

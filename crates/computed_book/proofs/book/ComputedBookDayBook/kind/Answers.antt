@@ -6,7 +6,7 @@ use Rattle.computed_book.proofs.book.ComputedBookDayBook.kind.Goals as goal
 
 pub returns-in-Ok : goal.returns-in-Ok
 returns-in-Ok c =
-    let k = kind_told c.args.day c.in-Ok.year c.in-Ok.month c.in-Ok.of-month c.in-Ok.ensures.answer (told_kind c.first-kind.result) c.first-kind.ensures in
+    let k = kind_told c.args.day c.in-Ok.year c.in-Ok.month c.in-Ok.of_month c.in-Ok.ensures.answer (told_kind c.first_kind.result) c.first_kind.ensures in
     record { meaning = k.0; words = k.1 }
 
 pub returns-in-Err : goal.returns-in-Err
