@@ -14,6 +14,7 @@ import sys
 
 WORD = re.compile(r"[^\s(){}.;,@\"«»\[\]`…:/|]+")
 OWN = re.compile(r"(?<![\w-])(overflow|nonzero|slice|offset|invariant|shape|type)-(add|sub|mul|shl|shr|cast|step|div|rem|bounds|of|inv)(?![\w])")
+IN = re.compile(r"(?<![\w])in-(ok|err|default)(?![\w])")
 
 
 def identifiers(crate):
@@ -24,7 +25,7 @@ def identifiers(crate):
 
 def spelled(word, known):
     """The word with each run of its parts that is an identifier of the source written as there."""
-    word = OWN.sub(r"\1_\2", word)
+    word = IN.sub(r"in_\1", OWN.sub(r"\1_\2", word))
     out = []
     for piece in re.split(r"(\+)", word):
         parts, at, joined = piece.split("-"), 0, []

@@ -9,7 +9,7 @@ pub returns : goal.returns
 returns c =
     let book = c.args.self.now in
     let entry = dated c.args.day c.args.kind in
-    let told = c.in-ok-self.ensures in
+    let told = c.in_ok-self.ensures in
     let is : placed no_later entry (take book.count book.entries.now) ≡ take (book.count + 1) c.insert.new.rows =
     front no_later entry book.entries.now book.count told.rows.0 c.insert.new.rows told.rows.2 in
     record {

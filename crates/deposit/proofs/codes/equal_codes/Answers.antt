@@ -1,8 +1,0 @@
-use Rattle.std.proofs.Common.{rules}
-use Rattle.std.proofs.lemmas.Slice.Eq.{slice_eq-Decides, compares_Decides}
-use Rattle.deposit.specs.Codes.{same_code}
-use Rattle.deposit.proofs.codes.equal_codes.Goals as goal
-use Rattle.std.proofs.lemmas.Bool.Decides.{Decides-eqb}
-
-pub returns : goal.returns
-returns c = let h = slice_eq-Decides Decides-eqb _ _ _ c.eq.ensures in search (rules, compares_Decides same_code (search rules))
