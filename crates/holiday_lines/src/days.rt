@@ -23,7 +23,7 @@ pub(crate) fn day_of(year: u16, month: u8, of_month: u8) -> u32
 
 // How long the text of one day is: nothing where the book gives it no kind.
 fn day_length<B: DayBook>(book: &B, day: u32) -> usize
-    ensures value { result ≡ length (text_on (kind_of book.now) day) }
+    ensures value { result ≡ length (text_on (B.kind_of book.now) day) }
     ensures few { result ≤ 80 }
 {
     match book.kind(day) {
@@ -35,7 +35,7 @@ fn day_length<B: DayBook>(book: &B, day: u32) -> usize
 // How long the text of the days from `first` on is, before `end`.
 pub(crate) fn days_length<B: DayBook>(book: &B, first: u32, end: u32) -> usize
     requires { (first ≤ end) × (end ≤ 73049) }
-    ensures { result ≡ length (lines_of (kind_of book.now) (holidays_from (kind_of book.now) first (end - first))) }
+    ensures { result ≡ length (lines_of (B.kind_of book.now) (holidays_from (B.kind_of book.now) first (end - first))) }
 {
     let mut total = 0;
     for day in first..end {
@@ -46,8 +46,8 @@ pub(crate) fn days_length<B: DayBook>(book: &B, first: u32, end: u32) -> usize
 
 // Writes the text of one day.
 fn put_day<B: DayBook>(book: &B, day: u32, out: &mut [u8], at: usize) -> usize
-    requires { (day ≤ 73048) × (at + length (text_on (kind_of book.now) day) ≤ length out.old) }
-    ensures { Put out.old at (text_on (kind_of book.now) day) out.new result }
+    requires { (day ≤ 73048) × (at + length (text_on (B.kind_of book.now) day) ≤ length out.old) }
+    ensures { Put out.old at (text_on (B.kind_of book.now) day) out.new result }
 {
     match book.kind(day) {
         Some(kind) => put_line(out, at, day, kind),
@@ -57,8 +57,8 @@ fn put_day<B: DayBook>(book: &B, day: u32, out: &mut [u8], at: usize) -> usize
 
 // Writes the text of the days from `first` on, before `end`, at the front.
 pub(crate) fn put_days<B: DayBook>(book: &B, first: u32, end: u32, out: &mut [u8]) -> usize
-    requires { (first ≤ end) × ((end ≤ 73049) × (length (lines_of (kind_of book.now) (holidays_from (kind_of book.now) first (end - first))) ≤ length out.old)) }
-    ensures { Put out.old 0 (lines_of (kind_of book.now) (holidays_from (kind_of book.now) first (end - first))) out.new result }
+    requires { (first ≤ end) × ((end ≤ 73049) × (length (lines_of (B.kind_of book.now) (holidays_from (B.kind_of book.now) first (end - first))) ≤ length out.old)) }
+    ensures { Put out.old 0 (lines_of (B.kind_of book.now) (holidays_from (B.kind_of book.now) first (end - first))) out.new result }
 {
     let mut at = 0;
     for day in first..end {

@@ -19,7 +19,7 @@ use refusals::Refusal;
 // Writes the lines of a year's holidays at the front.
 fn year_lines<B: DayBook>(book: &B, year: u16, out: &mut [u8]) -> Result<usize, Refusal>
     requires { (2000 ≤ year) × (year < 2200) }
-    ensures { Written (lines_of (kind_of book.now) (holidays_of (kind_of book.now) year)) out.old result out.new }
+    ensures { Written (lines_of (B.kind_of book.now) (holidays_of (B.kind_of book.now) year)) out.old result out.new }
 {
     let first = day_of(year, 1, 1);
     let end = day_of(year, 12, 31) + 1;
@@ -33,8 +33,8 @@ fn year_lines<B: DayBook>(book: &B, year: u16, out: &mut [u8]) -> Result<usize, 
 /// Where the line is exactly the four digits of a year from 2000 to 2199, the text is one line for each day of that year to
 /// which the book gives a kind; else it is the line that tells refusal 40. A buffer too short for the text is 44.
 pub fn year_text<B: DayBook>(book: &B, line: &[u8], out: &mut [u8]) -> Result<usize, Refusal>
-    ensures answer { Written (year_text (kind_of book.now) line.now) out.old result out.new }
-    ensures words { Told (kind_of book.now) }
+    ensures answer { Written (year_text (B.kind_of book.now) line.now) out.old result out.new }
+    ensures words { Told (B.kind_of book.now) }
 {
     match year_named(line) {
         Some(year) => year_lines(book, year, out),

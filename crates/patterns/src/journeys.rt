@@ -9,7 +9,7 @@ pub const STEPS_TO_PATTERN: usize = 1;
 
 /// The pattern of a journey row: its own, or that of the journey that it refers to; nothing where neither names one.
 pub fn pattern_of<C: Carrier>(c: &C, journey: usize) -> Option<usize>
-    ensures value { result ≡ pattern_of (meaning c.now) journey }
+    ensures value { result ≡ pattern_of (C.meaning c.now) journey }
 {
     let mut at = journey;
     let mut left = STEPS_TO_PATTERN;

@@ -16,7 +16,7 @@ pub fn is_open(span: Span, count: usize) -> bool
 
 /// A cursor before the first link of a pattern.
 pub fn along<C: Carrier>(c: &C, pattern: usize) -> Cursor
-    ensures rows { ahead (meaning c.now) result ≡ links_of (meaning c.now) pattern }
+    ensures rows { ahead (C.meaning c.now) result ≡ links_of (C.meaning c.now) pattern }
 {
     let row = c.pattern(pattern);
     Cursor {
@@ -30,7 +30,7 @@ pub fn along<C: Carrier>(c: &C, pattern: usize) -> Cursor
 
 /// The next link, which the cursor then lies behind; nothing when there is none.
 pub fn next_link<C: Carrier>(c: &C, cursor: &mut Cursor) -> Option<LinkRow>
-    ensures rows { Stepped (ahead (meaning c.now) cursor.old) result (ahead (meaning c.now) cursor.new) }
+    ensures rows { Stepped (ahead (C.meaning c.now) cursor.old) result (ahead (C.meaning c.now) cursor.new) }
 {
     loop {
         if is_open(cursor.links, c.count(Kind::Link)) {
@@ -52,7 +52,7 @@ pub fn next_link<C: Carrier>(c: &C, cursor: &mut Cursor) -> Option<LinkRow>
 
 /// Whether a pattern has a link at a position, counted from 0: at most `position + 1` links are looked at.
 pub fn has_links_past<C: Carrier>(c: &C, pattern: usize, position: usize) -> bool
-    ensures value { result ≡ nat_lt position (length (links_of (meaning c.now) pattern)) }
+    ensures value { result ≡ nat_lt position (length (links_of (C.meaning c.now) pattern)) }
 {
     let mut cursor = along(c, pattern);
     let mut passed = 0;
