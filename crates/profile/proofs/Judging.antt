@@ -1,6 +1,6 @@
 -- The verdict is right: it finds nothing exactly where all rules hold, and otherwise the lowest row of the first broken rule.
 -- Assumes nothing.
-use Rattle.std.proofs.Common.{◌≡◌, ℕ, zero, suc, ◌+◌, ◌-◌, ◌<◌, ◌≤◌, Bool, true, false, cond, ◌⊎◌, List, [], ◌∷◌, length, get_or, Some, None, Decides, Option, sym, refl, ap, ◌∙◌, subst, inl, inr, ⊎_elim, arith, rules, MatchOption}
+use Rattle.std.proofs.Common.{◌≡◌, ℕ, zero, suc, ◌+◌, ◌-◌, ◌<◌, ◌≤◌, Bool, true, false, cond, ◌⊎◌, List, [], ◌∷◌, length, get_or, Some, None, Decides, Option, sym, refl, ap, ◌∙◌, subst, inl, inr, ⊎_elim, arith, rules as std_rules, MatchOption}
 use Rattle.std.specs.Option.{option_map}
 use Rattle.std.specs.List.{ContainsAt as Has, AllByRecursion as All}
 use Rattle.std.proofs.lemmas.Bool.{cases_lt, false≢true}
@@ -74,19 +74,19 @@ mapped_none g None e = refl
 mapped_none g (Some x) e = let z : ◌≡◌ {A = ℕ} 0 1 = cc in absurd (omega arith)
 
 rising_kinds : (r : Rule) → Rising kind_number (judged r)
-rising_kinds rules-of.Counts = search rules
-rising_kinds rules-of.Ranges = search rules
-rising_kinds rules-of.Revision = search rules
-rising_kinds rules-of.Period = search rules
-rising_kinds rules-of.Description = search rules
-rising_kinds rules-of.Days = search rules
-rising_kinds rules-of.Reference = search rules
-rising_kinds rules-of.Joining = search rules
-rising_kinds rules-of.Overriding = search rules
-rising_kinds rules-of.Codes = search rules
+rising_kinds rules-of.Counts = search std_rules
+rising_kinds rules-of.Ranges = search std_rules
+rising_kinds rules-of.Revision = search std_rules
+rising_kinds rules-of.Period = search std_rules
+rising_kinds rules-of.Description = search std_rules
+rising_kinds rules-of.Days = search std_rules
+rising_kinds rules-of.Reference = search std_rules
+rising_kinds rules-of.Joining = search std_rules
+rising_kinds rules-of.Overriding = search std_rules
+rising_kinds rules-of.Codes = search std_rules
 
 rising_rules : Rising rule_number rules
-rising_rules = search rules
+rising_rules = search std_rules
 
 -- a kind with no fault has only sound rows
 none_sound : (r : Rule) (d : Deposit) (k : Kind) → row_fault r d k ≡ None → (n : ℕ) → n < subjects r d k → Sound r d k n

@@ -14,8 +14,8 @@ put_bytes-next-requires c =
 
 pub loop-i-preserved : goal.loop-i-preserved
 loop-i-preserved c =
-    let first = ap (λ x. 32 ∷ x ∷ c.hex_digit-2.result ∷ []) c.hex_digit.ensures in
-    let second = ap (λ x. 32 ∷ hex_digit _ ∷ x ∷ []) c.hex_digit-2.ensures in
+    let first = ap (λ x. 32 ∷ x ∷ c.hex_digit-in-loop-i.result ∷ []) c.hex_digit.ensures in
+    let second = ap (λ x. 32 ∷ hex_digit _ ∷ x ∷ []) c.hex_digit-in-loop-i.ensures in
     put_as (sym (hex_more c.args.bytes.now c.loop-i.i c.loop-i-test.true)) (then c.loop-i.invariant (put_as (first ∙ second) c.put_bytes-next.ensures.bytes))
 
 pub returns : goal.returns
