@@ -1,9 +1,8 @@
 -- What is answered and written of a deposit that passes. Assumes nothing.
 use Rattle.std.proofs.Common.{◌≡◌, ℕ, ◌+◌, ◌≤◌, cond, leb, List, ◌++◌, length, take, drop, Ok, Err, Result, sym, refl, ap, ◌∙◌, arith}
 use Rattle.std.proofs.lemmas.Bool.{le-leb, cond-true}
-use Rattle.refusals.specs.declared.DepositFault.TheVariants.{TooLong}
-use Rattle.refusals.specs.declared.Refusal.{Refusal}
-use Rattle.refusals.specs.declared.Refusal.TheVariants as refused
+use Rattle.encoding.specs.declared.faults.WriteFault.{WriteFault}
+use Rattle.encoding.specs.declared.faults.WriteFault.TheVariants.{TooLong, NoRoom}
 use Rattle.refusals.specs.Numbers as numbers
 use Rattle.deposit.specs.Deposit.{Deposit}
 use Rattle.layout.specs.Writing.{rows_of, deposit_content, encode}
@@ -20,10 +19,10 @@ fits_answer d size at n e short room =
     let m = length (deposit_content d) in
     let long : leb m most_content ≡ _ = le-leb m most_content (omega arith) in
     let fits : leb (at + (3 + m)) size ≡ _ = le-leb (at + (3 + m)) size (omega arith) in
-    let done : Result ℕ Refusal = Ok (3 + m) in
+    let done : Result ℕ WriteFault = Ok (3 + m) in
     let all : write_fit d size at ≡ Ok (3 + m) =
-    cond-true (leb m most_content) (cond (leb (at + (3 + m)) size) (Ok (3 + m)) (Err refused.NoRoom)) (Err (refused.Deposit TooLong)) long
-    ∙ cond-true (leb (at + (3 + m)) size) (Ok (3 + m)) (Err refused.NoRoom) fits
+    cond-true (leb m most_content) (cond (leb (at + (3 + m)) size) (Ok (3 + m)) (Err NoRoom)) (Err TooLong) long
+    ∙ cond-true (leb (at + (3 + m)) size) (Ok (3 + m)) (Err NoRoom) fits
     in
     ap (λ k. Ok (3 + k)) e ∙ sym all
 

@@ -2,6 +2,7 @@
 #![tactic(auto)]
 
 mod deposits;
+pub mod faults;
 mod lengths;
 mod rows;
 mod values;

@@ -1,4 +1,4 @@
-use Rattle.std.proofs.Common.{◌≡◌, [], ◌∷◌, length, sym, ap, ◌∙◌, arith}
+use Rattle.std.proofs.Common.{◌≡◌, ◌/◌, [], ◌∷◌, length, get_or, sym, ap, ◌∙◌, arith}
 use Rattle.std.proofs.lemmas.List.{take_all}
 use Rattle.writing.proofs.Putting.{then, put_as, put_none}
 use Rattle.pieces.specs.Texts.{hex_digit, hex_text}
@@ -15,7 +15,8 @@ put_bytes-next-requires c =
 pub loop-i-preserved : goal.loop-i-preserved
 loop-i-preserved c =
     let first = ap (λ x. 32 ∷ x ∷ c.hex_digit-in-loop-i.result ∷ []) c.hex_digit.ensures in
-    let second = ap (λ x. 32 ∷ hex_digit _ ∷ x ∷ []) c.hex_digit-in-loop-i.ensures in
+    let byte = get_or c.args.bytes.now c.loop-i.i 0 in
+    let second = ap (λ x. 32 ∷ hex_digit (byte / 16) ∷ x ∷ []) c.hex_digit-in-loop-i.ensures in
     put_as (sym (hex_more c.args.bytes.now c.loop-i.i c.loop-i-test.true)) (then c.loop-i.invariant (put_as (first ∙ second) c.put_bytes-next.ensures.bytes))
 
 pub returns : goal.returns
