@@ -4,7 +4,7 @@
 --   weekday_name     the English name, as bytes
 --   weekday_of       the number of the weekday of a day: day 0, 1 January 2000, is a Saturday
 --   Week             what makes it the week: day 0 is a Saturday, and each day is followed by the next weekday, Sunday by Monday
-use Rattle.std.specs.Prelude.{◌≡◌, ℕ, suc, ◌+◌, ◌%◌, ◌<◌, List, codes}
+use Rattle.std.specs.Prelude.{◌≡◌, ℕ, ◌+◌, ◌%◌, ◌<◌, List, codes}
 use Rattle.calendar.specs.declared.weeks.Weekday.{Weekday}
 use Rattle.calendar.specs.declared.weeks.Weekday.TheVariants.{Monday, Tuesday, Wednesday, Thursday, Friday, Saturday, Sunday}
 

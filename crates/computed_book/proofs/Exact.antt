@@ -1,15 +1,15 @@
 -- The kind that the rules give a day is each holiday's exactly on its day. Assumes nothing.
-use Rattle.std.proofs.Common.{◌≡◌, ℕ, suc, ◌+◌, ◌-◌, ◌%◌, ◌<◌, ◌≤◌, Bool, true, false, cond, ◌&&◌, eqb, ltb, leb, ◌⊎◌, get_or, Decides, sym, refl, ap, ◌∙◌, subst, inl, inr, ⊎_elim, arith}
+use Rattle.std.proofs.Common.{◌≡◌, ℕ, suc, ◌+◌, ◌-◌, ◌<◌, ◌≤◌, Bool, true, cond, ◌&&◌, eqb, ltb, leb, get_or, sym, ap, ◌∙◌, subst, ⊎_elim, arith}
 use Rattle.std.proofs.lemmas.Bool.{cases_lt, cond-true, le-leb, leb-true, lt-ltb, ltb-true, eqb-true, eq-eqb, and_parts, and_from}
 use Rattle.std.proofs.lemmas.Bool.Decides.{nat_tests}
-use Rattle.calendar.specs.Dates.{last_day, leap, leaps, year_start, lengths, month_start, day_number, Valid, Dated, date_of}
+use Rattle.calendar.specs.Dates.{last_day, leap, leaps, year_start, lengths, month_start, Dated, date_of}
 use Rattle.calendar.specs.Words.{Exactly}
 use Rattle.calendar.specs.Weeks.{weekday_of}
-use Rattle.computed_book.specs.Easters.{easter_of, Paschal}
+use Rattle.computed_book.specs.Easters.{easter_of}
 use Rattle.computed_book.specs.Rules.{first_kind, holidays, kind_on, computed_kind}
 use Rattle.computed_book.specs.Words.{On, Monday, FirstMonday, LastMonday, BeforeEaster, AfterEaster, Holidays}
 use Rattle.calendar.proofs.Years.{leaps_next, same_year, year_le}
-use Rattle.calendar.proofs.Months.{month_more, month_le, month_end, year_length}
+use Rattle.calendar.proofs.Months.{month_more, month_le, year_length}
 use Rattle.calendar.proofs.Turns.{in_year, in_month, day_of_year, dated_le, one_year, one_month, one_day}
 use Rattle.calendar.proofs.Counts.{date_is}
 use Rattle.computed_book.proofs.Paschals.{paschal}

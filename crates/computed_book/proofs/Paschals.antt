@@ -2,7 +2,7 @@
 use Rattle.std.proofs.Common.{◌≡◌, ℕ, zero, suc, ◌+◌, ◌-◌, ◌<◌, ◌≤◌, Bool, true, ◌&&◌, eqb, ltb, get_or, IfOk, Ok, Err, Decides, Result, sym, refl, ap, ◌∙◌, subst, le_of_suc-le-suc, arith}
 use Rattle.std.proofs.lemmas.Bool.Decides.{Decides-below_and, Decides-and, Decides-eqb, Decides-ltb}
 use Rattle.refusals.specs.declared.Refusal.{Refusal}
-use Rattle.calendar.specs.Dates.{leap, leaps, lengths, day_number, Valid, Dated, Joins}
+use Rattle.calendar.specs.Dates.{leap, leaps, lengths, day_number, Valid, Joins}
 use Rattle.calendar.specs.Weeks.{weekday_of}
 use Rattle.computed_book.specs.Easters.{rule_date, easter_of, full_moon_day, Paschal, EasterTold}
 

@@ -5,8 +5,8 @@
 --   holidays       the kinds with their rules
 --   computed_kind  the kind of a day in the computed book, 0 for none and for a day past the calendar
 --   computed_few, computed_ends   the laws of a day book, of it
-use Rattle.std.specs.Prelude.{◌≡◌, ℕ, ◌+◌, ◌-◌, ◌<◌, ◌≤◌, Bool, true, false, cond, ◌&&◌, List, [], ◌∷◌, ◌==◌, nat_le, nat_lt, slice_index, refl}
-use Rattle.std.proofs.Common.{ap, ◌∙◌, arith}
+use Rattle.std.specs.Prelude.{◌≡◌, ℕ, ◌+◌, ◌-◌, ◌<◌, ◌≤◌, Bool, cond, ◌&&◌, List, [], ◌∷◌, ◌==◌, nat_le, nat_lt, slice_index}
+use Rattle.std.proofs.Common.{arith}
 use Rattle.std.proofs.lemmas.Bool.{cond_both, cond-false, lt-leb}
 use Rattle.calendar.specs.declared.books.HolidayKind.{HolidayKind}
 use Rattle.calendar.specs.declared.books.HolidayKind.TheVariants.{NewYearsDay, GoodFriday, EasterMonday, MayDay, SpringBank, LateSummerBank, ChristmasDay, BoxingDay}

@@ -6,7 +6,7 @@
 --   Deposit                     the eleven lists
 --   nothing                     the deposit with no rows
 --   count_of                    how many rows of a kind there are
-use Rattle.std.specs.Prelude.{ℕ, List, [], length, get_or, Some, None, Option}
+use Rattle.std.specs.Prelude.{ℕ, List, [], length, None, Option}
 use Rattle.times.specs.declared.moments.Moment.{Moment}
 use Rattle.refusals.specs.declared.Kind as kind
 use Rattle.refusals.specs.declared.Kind.TheVariants as kinds

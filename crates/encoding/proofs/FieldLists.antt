@@ -1,6 +1,6 @@
 -- Fields one behind the other, and the rows of kinds one behind the other. Assumes nothing.
 use Rattle.std.proofs.Common.{◌≡◌, ℕ, ◌+◌, ◌<◌, ◌≤◌, List, [], ◌∷◌, ◌++◌, length, get_or, take, drop, sym, refl, ap, ◌∙◌, append_assoc, append-nil, arith, length-append, take-append-drop}
-use Rattle.std.proofs.lemmas.List.{take_more, drop_more, length-map, get_or-map}
+use Rattle.std.proofs.lemmas.List.{take_more, length-map, get_or-map}
 use Rattle.refusals.specs.declared.Kind as kind
 use Rattle.refusals.specs.declared.Kind.TheVariants as kinds
 use Rattle.refusals.specs.Numbers.{kind_number}

@@ -1,5 +1,5 @@
 -- A deposit that passes is fit to be written. Assumes nothing.
-use Rattle.std.proofs.Common.{◌≡◌, ℕ, ◌<◌, ◌≤◌, arith}
+use Rattle.std.proofs.Common.{ℕ, ◌<◌, ◌≤◌, arith}
 use Rattle.std.specs.List.{AllByRecursion as All}
 use Rattle.refusals.specs.declared.Kind as kind
 use Rattle.refusals.specs.declared.Kind.TheVariants as kinds

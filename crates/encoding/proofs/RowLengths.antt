@@ -1,5 +1,5 @@
 -- How many bytes a row takes. Assumes nothing.
-use Rattle.std.proofs.Common.{◌≡◌, ℕ, ◌+◌, List, [], ◌∷◌, ◌++◌, length, Some, None, Option, sym, refl, ap, ◌∙◌, arith, length-append}
+use Rattle.std.proofs.Common.{◌≡◌, ℕ, ◌+◌, List, ◌∷◌, ◌++◌, length, Some, None, Option, refl, arith, length-append}
 use Rattle.times.specs.declared.moments.Moment.{Moment}
 use Rattle.deposit.specs.Deposit.{Head, Line, Stop, Journey}
 use Rattle.fields.specs.Forms.{bytes4, given2, given4, field}

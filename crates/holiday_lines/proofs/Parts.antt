@@ -1,5 +1,5 @@
 -- The words of a holiday's line, from what the calendar tells, and their lengths. Assumes nothing.
-use Rattle.std.proofs.Common.{◌≡◌, ℕ, ◌+◌, ◌-◌, ◌≤◌, List, [], ◌∷◌, ◌++◌, length, get_or, decimal, sym, refl, ap, ◌∙◌, arith, lit≤, length-append}
+use Rattle.std.proofs.Common.{◌≡◌, ℕ, ◌+◌, ◌≤◌, List, [], ◌∷◌, ◌++◌, length, get_or, decimal, sym, refl, ap, ◌∙◌, arith, lit≤, length-append}
 use Rattle.calendar.specs.declared.weeks.Weekday.{Weekday}
 use Rattle.calendar.specs.declared.weeks.Weekday.TheVariants.{Monday, Tuesday, Wednesday, Thursday, Friday, Saturday, Sunday}
 use Rattle.calendar.specs.declared.books.HolidayKind.{HolidayKind}

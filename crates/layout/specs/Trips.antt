@@ -4,9 +4,9 @@
 --   HeadKept ..       a row of that kind is read again as it was written: its texts are short enough, and no value that is
 --                     given looks like a missing one
 --   Kept d            this of every row
---   SameRows         rows that are kept are written and read again as the same rows
---   SameBytes        bytes in form are read and written again as the same bytes
---   WorkedStop       a worked example: how the row of the stop 0600000102, Shop, begins
+--   SameRows          rows that are kept are written and read again as the same rows
+--   SameBytes         bytes in form are read and written again as the same bytes
+--   WorkedStop        a worked example: how the row of the stop 0600000102, Shop, begins
 use Rattle.std.specs.Prelude.{◌≡◌, ℕ, ◌<◌, ◌≤◌, List, [], ◌∷◌, length, take, Some, None, codes, Option}
 use Rattle.std.specs.List.{AllByRecursion as All}
 use Rattle.times.specs.declared.moments.Moment.{Moment}

@@ -2,11 +2,9 @@
 use Rattle.std.proofs.Common.{◌≡◌, ℕ, ◌+◌, ◌*◌, ◌/◌, ◌%◌, ◌<◌, ◌≤◌, List, [], ◌∷◌, ◌++◌, length, get_or, take, drop, decimal, sym, refl, ap, ◌∙◌, append_assoc, append-nil, arith, length-append, take-append-drop}
 use Rattle.std.proofs.lemmas.Fmt.{decimal_digit}
 use Rattle.std.proofs.lemmas.List.{take_more, length-take-le}
-use Rattle.writing.specs.Puts.{padded}
-use Rattle.writing.proofs.Padding.{length-padded}
 use Rattle.pieces.specs.declared.piece.Piece.{Piece}
 use Rattle.pieces.specs.declared.piece.Piece.TheVariants.{Text}
-use Rattle.pieces.specs.Texts.{date_text, hex_digit, hex_text, piece_text, pieces_text}
+use Rattle.pieces.specs.Texts.{hex_digit, hex_text, piece_text, pieces_text}
 
 -- what stands past the end of a list of pieces
 abbrev pub no_piece : Piece

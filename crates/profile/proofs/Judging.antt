@@ -1,13 +1,12 @@
 -- The verdict is right: it finds nothing exactly where all rules hold, and otherwise the lowest row of the first broken rule.
 -- Assumes nothing.
-use Rattle.std.proofs.Common.{◌≡◌, ℕ, zero, suc, ◌+◌, ◌-◌, ◌<◌, ◌≤◌, Bool, true, false, cond, ◌⊎◌, List, [], ◌∷◌, length, get_or, Some, None, Decides, Option, sym, refl, ap, ◌∙◌, subst, inl, inr, ⊎_elim, arith, rules as std_rules, MatchOption}
+use Rattle.std.proofs.Common.{◌≡◌, ℕ, zero, suc, ◌+◌, ◌<◌, ◌≤◌, Bool, true, false, cond, List, [], ◌∷◌, Some, None, Option, sym, refl, subst, ⊎_elim, arith, rules as std_rules}
 use Rattle.std.specs.Option.{option_map}
 use Rattle.std.specs.List.{ContainsAt as Has, AllByRecursion as All}
-use Rattle.std.proofs.lemmas.Bool.{cases_lt, false≢true}
+use Rattle.std.proofs.lemmas.Bool.{cases_lt}
 use Rattle.std.proofs.ByRecursion.{All-weaker, all-has}
 use Rattle.std.proofs.lemmas.Bool.Decides.{not_from_Decides}
 use Rattle.refusals.specs.declared.Kind.{Kind}
-use Rattle.refusals.specs.declared.Kind.TheVariants as kinds
 use Rattle.refusals.specs.declared.Rule.{Rule}
 use Rattle.refusals.specs.declared.Rule.TheVariants as rules-of
 use Rattle.refusals.specs.declared.DepositFault as fault
@@ -17,7 +16,7 @@ use Rattle.deposit.specs.Deposit.{Deposit}
 use Rattle.profile.specs.Firsts.{or_else, first_from, first_below, first_some}
 use Rattle.rules.specs.Tests.{judged, subjects, kept}
 use Rattle.rules.specs.Words.{Sound, Holds}
-use Rattle.profile.specs.Verdict.{row_fault, rule_fault, verdict, Passes, NamesRow, Names, Judged}
+use Rattle.profile.specs.Verdict.{row_fault, rule_fault, verdict, Names, Judged}
 use Rattle.rules.proofs.Decided.{sound_decides}
 
 -- what a search through numbers found: nothing, and all pass, or the first that fails

@@ -8,7 +8,7 @@
 --   Names d f    the fault names a row that its rule judges and that breaks it, while every earlier rule holds, every lower row of
 --                its kind is sound, and every row of a lower kind that the rule judges is
 --   Judged d v   a verdict is right: nothing exactly where the deposit passes, and otherwise a fault that names its row
-use Rattle.std.specs.Prelude.{◌≡◌, ℕ, ◌<◌, List, Some, None, Ok, Err, Option, Result, MatchOption}
+use Rattle.std.specs.Prelude.{◌≡◌, ℕ, ◌<◌, Some, None, Ok, Err, Option, Result, MatchOption}
 use Rattle.std.specs.Option.{option_map}
 use Rattle.std.specs.List.{ContainsAt as Has, AllByRecursion as All}
 use Rattle.refusals.specs.declared.Kind.{Kind}

@@ -14,7 +14,6 @@ use Rattle.deposit.specs.declared.rows.ProfileRow.{ProfileRow}
 use Rattle.deposit.specs.declared.rows.SpecialRow.{SpecialRow}
 use Rattle.deposit.specs.declared.rows.LinkRow.{LinkRow}
 use Rattle.deposit.specs.declared.rows.SectionRow.{SectionRow}
-use Rattle.deposit.specs.declared.rows.UseRow.{UseRow}
 use Rattle.deposit.specs.declared.rows.PatternRow.{PatternRow}
 use Rattle.deposit.specs.declared.rows.OverrideRow.{OverrideRow}
 use Rattle.deposit.specs.Deposit.{Head, Line, Stop, Journey, Deposit, no_head, no_line, no_stop, no_profile, no_special, no_link, no_section, no_use, no_pattern, no_override, no_journey}

@@ -1,9 +1,9 @@
 -- Each rule's test of a row decides what its words say. Assumes nothing.
-use Rattle.std.proofs.Common.{◌≡◌, ℕ, zero, suc, ◌+◌, ◌-◌, ◌<◌, ◌≤◌, Bool, true, false, cond, not, ◌&&◌, ◌||◌, eqb, ltb, leb, ◌⊎◌, List, [], ◌∷◌, length, get_or, is_some, Some, None, Decides, Option, sym, refl, ap, ◌∙◌, subst, inl, inr, ⊎_elim, le_of_suc-le-suc, add-one, arith, rules}
+use Rattle.std.proofs.Common.{◌≡◌, ℕ, zero, suc, ◌+◌, ◌-◌, ◌<◌, ◌≤◌, Bool, true, false, cond, not, eqb, ltb, leb, List, [], ◌∷◌, length, get_or, is_some, Some, None, Decides, Option, sym, refl, ap, subst, ⊎_elim, le_of_suc-le-suc, arith, rules}
 use lib.Bits.{bit_and}
-use Rattle.std.proofs.lemmas.Bool.{leb-true, leb-false, le-leb, ltb-true, ltb-false, lt-ltb, eqb-true, eqb-false, eq-eqb, and_parts, and_from, cases_Bool, cases_lt, false≢true, true≢false, not_from_false, not-true}
+use Rattle.std.proofs.lemmas.Bool.{leb-true, leb-false, eqb-true, eqb-false, cases_lt, false≢true}
 use Rattle.std.proofs.lemmas.Slice.Eq.{compares_Decides}
-use Rattle.std.proofs.lemmas.Bool.Decides.{Decides-and, Decides-or, Decides-not, Decides-eqb, Decides-ltb, Decides-like, Decides-at, not_from_Decides}
+use Rattle.std.proofs.lemmas.Bool.Decides.{Decides-or, Decides-not, Decides-eqb, Decides-ltb, Decides-like}
 use Rattle.times.specs.declared.moments.Moment.{Moment}
 use Rattle.times.specs.Moments.{later}
 use Rattle.refusals.specs.declared.Kind as kind
@@ -12,14 +12,12 @@ use Rattle.refusals.specs.declared.Rule as rule
 use Rattle.refusals.specs.declared.Rule.TheVariants as rules
 use Rattle.deposit.specs.declared.rows.LinkRow.{LinkRow}
 use Rattle.deposit.specs.declared.rows.OverrideRow.{OverrideRow}
-use Rattle.deposit.specs.Deposit.{Head, Line, Journey, Deposit, count_of, no_link, no_override}
+use Rattle.deposit.specs.Deposit.{Head, Deposit, count_of, no_link, no_override}
 use Rattle.deposit.specs.Codes.{same_code}
 use Rattle.patterns.specs.Links.{links_of}
 use Rattle.patterns.specs.Journeys.{steps_to_pattern, overrides_of}
-use Rattle.ranges.specs.Values.{given, between, in_range}
-use Rattle.ranges.specs.Words.{Given, Between, InRange}
 use Rattle.ranges.proofs.Decided.{decides_leb, both, decides_given, decides_between, range_decides}
-use Rattle.rules.specs.Tests.{none_below, most_rows, most_links, head_at, line_at, profile_at, special_at, journey_at, count_kept, same_moment, modified_later, revision_kept, days_kept, names_one, leads, leads_lower, has_profile, reference_kept, meets, follows, may_follow, joined, links_along, rise_end, ends_by, code_at, codes_kept, kept}
+use Rattle.rules.specs.Tests.{none_below, most_rows, most_links, head_at, line_at, profile_at, special_at, journey_at, count_kept, same_moment, modified_later, revision_kept, days_kept, leads, leads_lower, reference_kept, follows, joined, links_along, rise_end, ends_by, code_at, codes_kept, kept}
 use Rattle.rules.specs.Words.{IsGiven, Named, Counted, Revised, DaysAgree, OneOf, Leads, Referred, Meets, Joins, Overrides, Distinct, Sound}
 
 decides_some : {X : Type 0} (o : Option X) → Decides (is_some o) (IsGiven o)

@@ -1,5 +1,5 @@
 -- One link more of a pattern, and one override more of a journey. Assumes nothing.
-use Rattle.std.proofs.Common.{◌≡◌, ℕ, zero, suc, ◌+◌, ◌-◌, ◌<◌, ◌≤◌, true, false, cond, ◌&&◌, ◌||◌, ltb, leb, List, [], ◌∷◌, is_some, Some, None, Option, sym, ap, ◌∙◌, arith}
+use Rattle.std.proofs.Common.{◌≡◌, ℕ, zero, suc, ◌+◌, ◌-◌, ◌<◌, ◌≤◌, true, false, ◌&&◌, ◌||◌, ltb, leb, List, ◌∷◌, is_some, Some, None, Option, sym, ap, ◌∙◌, arith}
 use Rattle.std.proofs.lemmas.Bool.{cond-true, cond-false, le-leb, lt-leb, or_left}
 use Rattle.deposit.specs.Deposit.{Deposit}
 use Rattle.deposit.specs.declared.rows.LinkRow.{LinkRow}

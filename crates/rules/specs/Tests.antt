@@ -28,7 +28,7 @@ use Rattle.deposit.specs.declared.rows.LinkRow.{LinkRow}
 use Rattle.deposit.specs.declared.rows.ProfileRow.{ProfileRow}
 use Rattle.deposit.specs.declared.rows.SpecialRow.{SpecialRow}
 use Rattle.deposit.specs.declared.rows.OverrideRow.{OverrideRow}
-use Rattle.deposit.specs.Deposit.{Head, Line, Stop, Journey, Deposit, count_of, no_head, no_line, no_stop, no_profile, no_special, no_journey}
+use Rattle.deposit.specs.Deposit.{Head, Line, Journey, Deposit, count_of, no_head, no_line, no_stop, no_profile, no_special, no_journey}
 use Rattle.deposit.specs.Codes.{same_code}
 use Rattle.patterns.specs.Links.{links_of}
 use Rattle.patterns.specs.Journeys.{steps_to_pattern, pattern_of, overrides_of}

@@ -3,8 +3,8 @@
 --   moment_made       the moment of a day and a second, or refusal 40 for either out of range
 --   later x y         x comes after y: on a later day, or on the same day at a later second
 --   seconds_to        the seconds from the start of day 0 to a moment
---   LaterInSeconds  of moments whose seconds are in range, the later one has more seconds before it
-use Rattle.std.specs.Prelude.{◌≡◌, ℕ, ◌+◌, ◌*◌, ◌<◌, Bool, true, cond, ◌&&◌, ◌||◌, Ok, Err, Decides, Result, ◌==◌, nat_le, nat_lt}
+--   LaterInSeconds    of moments whose seconds are in range, the later one has more seconds before it
+use Rattle.std.specs.Prelude.{ℕ, ◌+◌, ◌*◌, ◌<◌, Bool, cond, ◌&&◌, ◌||◌, Ok, Err, Decides, Result, ◌==◌, nat_le, nat_lt}
 use Rattle.refusals.specs.declared.Refusal.{Refusal}
 use Rattle.refusals.specs.declared.Refusal.TheVariants.{OutOfRange}
 use Rattle.times.specs.declared.moments.Moment.{Moment}

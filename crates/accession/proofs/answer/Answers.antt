@@ -1,4 +1,4 @@
-use Rattle.std.proofs.Common.{◌≡◌, length, ap, ◌∙◌, arith}
+use Rattle.std.proofs.Common.{length, ap, ◌∙◌, arith}
 use Rattle.lines.specs.Texts.{refused_text}
 use Rattle.lines.proofs.Fronts.{front_le, front_is}
 use Rattle.verdict_lines.specs.Texts.{verdict_text}

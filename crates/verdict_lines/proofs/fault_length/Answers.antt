@@ -1,4 +1,4 @@
-use Rattle.std.proofs.Common.{◌≡◌, length, decimal, ap, ◌∙◌, arith}
+use Rattle.std.proofs.Common.{length, decimal, ap, ◌∙◌, arith}
 use Rattle.verdict_lines.proofs.Parts.{length-fault}
 use Rattle.verdict_lines.proofs.fault_length.Goals as goal
 

@@ -1,7 +1,7 @@
-use Rattle.std.proofs.Common.{◌≡◌, length, codes, decimal, ap, ◌∙◌, arith}
+use Rattle.std.proofs.Common.{length, codes, decimal, ap, ◌∙◌, arith}
 use Rattle.writing.proofs.Putting.{then, put_as, put_length}
 use Rattle.verdict_lines.specs.Texts.{named, fault_words}
-use Rattle.verdict_lines.proofs.Parts.{length-named, length-fault}
+use Rattle.verdict_lines.proofs.Parts.{length-fault}
 use Rattle.verdict_lines.proofs.put_fault.Goals as goal
 
 pub put_named-kind_at-requires : goal.put_named-kind_at-requires

@@ -1,4 +1,4 @@
-use Rattle.std.proofs.Common.{◌≡◌, refl, arith}
+use Rattle.std.proofs.Common.{refl, arith}
 use Rattle.writing.proofs.Putting.{then}
 use Rattle.lines.proofs.Fronts.{put_front}
 use Rattle.verdict_lines.proofs.Parts.{length-text}

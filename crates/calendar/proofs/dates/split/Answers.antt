@@ -1,4 +1,4 @@
-use Rattle.std.proofs.Common.{◌≡◌, ◌+◌, ◌-◌, ◌<◌, ◌≤◌, ◌⊎◌, get_or, sym, ap, ◌∙◌, inl, inr, arith}
+use Rattle.std.proofs.Common.{◌≡◌, ◌+◌, ◌-◌, ◌<◌, get_or, sym, ap, ◌∙◌, inl, inr, arith}
 use Rattle.calendar.specs.Dates.{leap, lengths, month_start, year_start, Dated}
 use Rattle.calendar.proofs.Turns.{left_less, split_dated, joins_back}
 use Rattle.calendar.proofs.Months.{length-le}

@@ -1,4 +1,4 @@
-use Rattle.std.proofs.Common.{ap, arith}
+use Rattle.std.proofs.Common.{arith}
 use Rattle.calendar.proofs.Years.{within_early, within_late}
 use Rattle.calendar.proofs.dates.years_before.Goals as goal
 use Rattle.calendar.proofs.dates.years_before.Goals.{then-day-ge-CENTURY, else-day-ge-CENTURY}

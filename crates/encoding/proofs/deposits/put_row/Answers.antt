@@ -1,4 +1,4 @@
-use Rattle.std.proofs.Common.{◌≡◌, ap, ◌∙◌, arith}
+use Rattle.std.proofs.Common.{ap, ◌∙◌, arith}
 use Rattle.refusals.specs.declared.Kind.TheVariants as kinds
 use Rattle.fields.specs.Forms.{field}
 use Rattle.layout.specs.Writing.{head_body, special_body, link_body, override_body, journey_body}

@@ -1,4 +1,4 @@
-use Rattle.std.proofs.Common.{◌≡◌, length, ap, ◌∙◌, arith}
+use Rattle.std.proofs.Common.{length, ap, arith}
 use Rattle.writing.proofs.Putting.{put_as, put_length}
 use Rattle.encoding.proofs.InFields.{in_field}
 use Rattle.encoding.proofs.Answering.{content_is, fits_answer, written_bytes}

@@ -1,4 +1,4 @@
-use Rattle.std.proofs.Common.{◌≡◌, ◌+◌, sym, ap, ◌∙◌, arith}
+use Rattle.std.proofs.Common.{◌+◌, sym, ap, ◌∙◌, arith}
 use Rattle.layout.proofs.Passing.{form_from, text_more, text_none, texts_all}
 use Rattle.layout.proofs.rows.has_form.Goals as goal
 

@@ -1,4 +1,4 @@
-use Rattle.std.proofs.Common.{◌≡◌, ◌≤◌, length, decimal, sym, arith, lit≤}
+use Rattle.std.proofs.Common.{◌≤◌, length, decimal, sym, arith, lit≤}
 use Rattle.std.proofs.lemmas.Fmt.{length-decimal-le}
 use Rattle.writing.proofs.Padding.{length-step, length-digit}
 use Rattle.pieces.proofs.decimals.+digits_of.Goals as goal

@@ -1,4 +1,4 @@
-use Rattle.std.proofs.Common.{◌≡◌, length, sym, ap, arith}
+use Rattle.std.proofs.Common.{sym, ap, arith}
 use Rattle.std.proofs.lemmas.List.{take_all}
 use Rattle.writing.proofs.Putting.{then, put_as}
 use Rattle.pieces.specs.Texts.{pieces_text}

@@ -1,4 +1,4 @@
-use Rattle.std.proofs.Common.{◌≡◌, ◌<◌, ◌≤◌, arith}
+use Rattle.std.proofs.Common.{◌<◌, arith}
 use Rattle.rules.specs.Tests.{subjects, kept}
 use Rattle.profile.proofs.Searches.{passed_more, passed_here}
 use Rattle.profile.proofs.check.first_row.Goals as goal

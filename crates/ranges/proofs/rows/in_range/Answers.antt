@@ -1,4 +1,3 @@
-use Rattle.std.proofs.Common.{Decides, sym, subst}
 use Rattle.std.proofs.lemmas.Bool.Decides.{Decides-at}
 use Rattle.ranges.proofs.Decided.{range_decides}
 use Rattle.ranges.proofs.rows.in_range.Goals as goal

@@ -1,4 +1,4 @@
-use Rattle.std.proofs.Common.{◌≡◌, ap, ◌∙◌, arith}
+use Rattle.std.proofs.Common.{ap, ◌∙◌, arith}
 use Rattle.deposit.specs.Codes.{same_code}
 use Rattle.rules.specs.Tests.{code_at}
 use Rattle.rules.proofs.Nones.{none_more, some_at}

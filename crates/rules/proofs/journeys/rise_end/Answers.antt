@@ -1,4 +1,4 @@
-use Rattle.std.proofs.Common.{◌≡◌, ◌+◌, ◌-◌, ◌∷◌, sym, ap, ◌∙◌}
+use Rattle.std.proofs.Common.{◌+◌, ◌-◌, sym, ap, ◌∙◌}
 use Rattle.deposit.specs.Deposit.{no_override}
 use Rattle.patterns.specs.Links.{part, shown}
 use Rattle.patterns.proofs.Parts.{shown_at, shown_empty}

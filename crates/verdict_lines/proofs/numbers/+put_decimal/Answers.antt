@@ -1,4 +1,4 @@
-use Rattle.std.proofs.Common.{◌≡◌, sym, arith}
+use Rattle.std.proofs.Common.{sym, arith}
 use Rattle.std.proofs.lemmas.Fmt.{decimal_step}
 use Rattle.writing.proofs.Padding.{length-step, length-digit}
 use Rattle.writing.proofs.Putting.{then, put_as, put_length}
