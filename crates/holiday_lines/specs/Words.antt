@@ -5,7 +5,7 @@
 --   Told kind      of every line and every year: which year a line names, in which order the lines of its holidays stand,
 --                  and which days they are
 use Rattle.std.specs.Prelude.{◌≡◌, ℕ, ◌<◌, ◌≤◌, List, [], ◌∷◌, Some, ◌≢◌}
-use Rattle.std.specs.List.{ContainsAt as Has, AllByRecursion as All}
+use Rattle.std.specs.List.{ContainsAt as Has, AllByRecursion}
 use Rattle.calendar.specs.Words.{Exactly}
 use Rattle.calendar.specs.Dates.{day_number}
 use Rattle.writing.specs.Puts.{padded}
@@ -14,7 +14,7 @@ use Rattle.holiday_lines.specs.Texts.{holidays_of}
 
 abbrev pub Climbs : List ℕ → Type 0
 Climbs [] = Unit {0}
-Climbs (day ∷ days) = All (λ later. day < later) days × Climbs days
+Climbs (day ∷ days) = AllByRecursion (λ later. day < later) days × Climbs days
 
 abbrev pub Names : List ℕ → ℕ → Type 0
 Names line y = (2000 ≤ y) × (y < 2200) × (line ≡ padded 4 y)

@@ -8,7 +8,7 @@
 --   SameBytes         bytes in form are read and written again as the same bytes
 --   WorkedStop        a worked example: how the row of the stop 0600000102, Shop, begins
 use Rattle.std.specs.Prelude.{◌≡◌, ℕ, ◌<◌, ◌≤◌, List, [], ◌∷◌, length, take, Some, None, codes, Option}
-use Rattle.std.specs.List.{AllByRecursion as All}
+use Rattle.std.specs.List.{AllByRecursion}
 use Rattle.times.specs.declared.moments.Moment.{Moment}
 use Rattle.deposit.specs.declared.rows.OverrideRow.{OverrideRow}
 use Rattle.deposit.specs.Deposit.{Head, Line, Stop, Journey, Deposit}
@@ -56,17 +56,17 @@ pub record JourneyKept (j : Journey) : Type 0 where
   pub profile : Fits2 j.profile
 
 pub record Kept (d : Deposit) : Type 0 where
-  pub heads : All HeadKept d.heads
-  pub lines : All LineKept d.lines
-  pub stops : All StopKept d.stops
-  pub overrides : All OverrideKept d.overrides
-  pub journeys : All JourneyKept d.journeys
+  pub heads : AllByRecursion HeadKept d.heads
+  pub lines : AllByRecursion LineKept d.lines
+  pub stops : AllByRecursion StopKept d.stops
+  pub overrides : AllByRecursion OverrideKept d.overrides
+  pub journeys : AllByRecursion JourneyKept d.journeys
 
 abbrev pub SameRows : Type 0
 SameRows = (d : Deposit) → Kept d → decode (encode d) ≡ Some d
 
 abbrev pub SameBytes : Type 0
-SameBytes = (bs : List ℕ) → All (λ b. b < 256) bs → (d : Deposit) → decode bs ≡ Some d → encode d ≡ bs
+SameBytes = (bs : List ℕ) → AllByRecursion (λ b. b < 256) bs → (d : Deposit) → decode bs ≡ Some d → encode d ≡ bs
 
 abbrev pub WorkedStop : Type 0
 WorkedStop = take 6 (field 3 (stop_body (record { code = codes "0600000102"; name = codes "Shop" }))) ≡ 3 ∷ 0 ∷ 20 ∷ 32 ∷ 0 ∷ 10 ∷ []

@@ -10,7 +10,7 @@
 --   Judged d v   a verdict is right: nothing exactly where the deposit passes, and otherwise a fault that names its row
 use Rattle.std.specs.Prelude.{◌≡◌, ℕ, ◌<◌, Some, None, Ok, Err, Option, Result, MatchOption}
 use Rattle.std.specs.Option.{option_map}
-use Rattle.std.specs.List.{ContainsAt as Has, AllByRecursion as All}
+use Rattle.std.specs.List.{ContainsAt as Has, AllByRecursion}
 use Rattle.refusals.specs.declared.Kind.{Kind}
 use Rattle.refusals.specs.declared.Rule.{Rule}
 use Rattle.refusals.specs.declared.DepositFault as fault
@@ -37,15 +37,15 @@ checked None = Ok tt
 checked (Some f) = Err (refused.Deposit f)
 
 pub record Passes (d : Deposit) : Type 0 where
-  pub holds : All (λ r. Holds r d) rules
+  pub holds : AllByRecursion (λ r. Holds r d) rules
 
 pub record NamesRow (d : Deposit) (r : Rule) (k : Kind) (n : ℕ) : Type 0 where
   pub judges : Has (judged r) k
   pub row : n < subjects r d k
   pub breaks : Sound r d k n → ⊥
   pub lower_rows : (m : ℕ) → m < n → Sound r d k m
-  pub lower_kinds : All (λ j. kind_number j < kind_number k → (m : ℕ) → m < subjects r d j → Sound r d j m) (judged r)
-  pub earlier_rules : All (λ q. rule_number q < rule_number r → Holds q d) rules
+  pub lower_kinds : AllByRecursion (λ j. kind_number j < kind_number k → (m : ℕ) → m < subjects r d j → Sound r d j m) (judged r)
+  pub earlier_rules : AllByRecursion (λ q. rule_number q < rule_number r → Holds q d) rules
 
 abbrev pub Names : Deposit → fault.DepositFault → Type 0
 Names d (Breaks r k n) = NamesRow d r k n

@@ -6,7 +6,7 @@
 --   is_name      a text of 1 to so many bytes
 --   Code, Name   the same in words
 use Rattle.std.specs.Prelude.{ℕ, ◌≤◌, Bool, true, ◌&&◌, List, [], ◌∷◌, length, nat_le}
-use Rattle.std.specs.List.{AllByRecursion as All}
+use Rattle.std.specs.List.{AllByRecursion}
 
 abbrev pub visible : ℕ → Bool
 visible b = nat_le 33 b && nat_le b 126
@@ -28,4 +28,4 @@ abbrev pub Visible : ℕ → Type 0
 Visible b = (33 ≤ b) × (b ≤ 126)
 
 abbrev pub Code : ℕ → List ℕ → Type 0
-Code most bs = Name most bs × All Visible bs
+Code most bs = Name most bs × AllByRecursion Visible bs

@@ -16,7 +16,7 @@
 --   Sound r d k n     what rule r asks of row n of kind k
 --   Holds r d         rule r holds: every row that it judges is sound
 use Rattle.std.specs.Prelude.{◌≡◌, ℕ, zero, suc, ◌+◌, ◌<◌, ◌≤◌, true, ◌⊎◌, List, length, get_or, Some, None, Option, ◌≢◌, bit_and, slice_index_or}
-use Rattle.std.specs.List.{AllByRecursion as All}
+use Rattle.std.specs.List.{AllByRecursion}
 use Rattle.times.specs.Moments.{later}
 use Rattle.refusals.specs.declared.Kind as kind
 use Rattle.refusals.specs.declared.Kind.TheVariants as kinds
@@ -113,4 +113,4 @@ Sound rules.Overriding d k n = Overrides (length (links_along d n)) (overrides_o
 Sound rules.Codes d k n = Distinct d k n
 
 abbrev pub Holds : rule.Rule → Deposit → Type 0
-Holds r d = All (λ k. (n : ℕ) → n < subjects r d k → Sound r d k n) (judged r)
+Holds r d = AllByRecursion (λ k. (n : ℕ) → n < subjects r d k → Sound r d k n) (judged r)
