@@ -50,7 +50,7 @@ def own_names():
     for path in files("specs/**/*.antt") + files("proofs/**/*.antt"):
         for line in open(path, encoding="utf-8"):
             m = DEFINES.match(line)
-            if m and "-" in m[1] and " : " in line and "goal." not in line and not re.match(r"\s*(use|let|in|elim|--|λ)", line):
+            if m and "-" in m[1] and " : " in line and "goal." not in line and not re.match(r"\s*(use|let|in|elim|λ)\s|\s*--", line):
                 names.add(m[1])
     return {n: spelled(n) for n in names if spelled(n) != n}
 

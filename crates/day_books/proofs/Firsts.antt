@@ -30,11 +30,11 @@ later_none x d (y ∷ ys) e h =
     or_from (eqb y.day d) (has_day ys d) (ne_eqb y.day d (λ q. omega arith)) (later_none x d ys e p.1)
 
 -- one more entry in front
-in-front : (e q h : Bool) (k m n : ℕ) → cond q m (cond (e && not h) k n) ≡ cond (e && not (q || h)) k (cond q m n)
-in-front true true h k m n = refl
-in-front true false h k m n = refl
-in-front false true h k m n = refl
-in-front false false h k m n = refl
+in_front : (e q h : Bool) (k m n : ℕ) → cond q m (cond (e && not h) k n) ≡ cond (e && not (q || h)) k (cond q m n)
+in_front true true h k m n = refl
+in_front true false h k m n = refl
+in_front false true h k m n = refl
+in_front false false h k m n = refl
 
 at_start : (e h : Bool) (k n : ℕ) → (e ≡ true → h ≡ false) → cond e k n ≡ cond (e && not h) k n
 at_start true h k n f = ap (λ b. cond (not b) k n) (sym (f refl))
@@ -45,7 +45,7 @@ first_between : (x : DatedKind) (d : ℕ) (xs ys : List DatedKind) → (eqb x.da
 first_between x d [] ys f = at_start (eqb x.day d) (has_day ys d) x.kind (first_kind ys d) f
 first_between x d (z ∷ xs) ys f =
     ap (cond (eqb z.day d) z.kind) (first_between x d xs ys f)
-    ∙ in-front (eqb x.day d) (eqb z.day d) (has_day (xs ++ ys) d) x.kind z.kind (first_kind (xs ++ ys) d)
+    ∙ in_front (eqb x.day d) (eqb z.day d) (has_day (xs ++ ys) d) x.kind z.kind (first_kind (xs ++ ys) d)
 
 first_placed : (x : DatedKind) (xs : List DatedKind) (d : ℕ) → first_kind (placed no_later x xs) d ≡ cond (eqb x.day d && not (has_day xs d)) x.kind (first_kind xs d)
 first_placed x xs d =

@@ -1,10 +1,10 @@
 // Writing the rows of a carrier, kind after kind, into bytes that have room for them.
-ghost use Rattle.std.specs.Prelude.{◌≡◌, ◌+◌, ◌<◌, ◌≤◌, length};
+ghost use Rattle.std.specs.Prelude.{◌+◌, ◌<◌, ◌≤◌, length};
 ghost use Rattle.writing.specs.Puts.{Put};
 ghost use Rattle.fields.specs.Forms.{field};
 ghost use Rattle.refusals.specs.Numbers.{kind_number};
 ghost use Rattle.deposit.specs.Deposit.{count_of};
-ghost use Rattle.layout.specs.Writing.{bodies, fields_of, rows_of, deposit_content};
+ghost use Rattle.layout.specs.Writing.{bodies, fields_of, rows_of};
 ghost use Rattle.encoding.specs.Rows.{Fit, body_at};
 
 use crate::rows::{

@@ -1,7 +1,7 @@
 // Writing numbers and heads of fields into bytes that have room for them.
-ghost use Rattle.std.specs.Prelude.{◌+◌, ◌<◌, ◌≤◌, [], ◌∷◌, length};
+ghost use Rattle.std.specs.Prelude.{◌+◌, ◌≤◌, [], ◌∷◌, length};
 ghost use Rattle.writing.specs.Puts.{Put};
-ghost use Rattle.fields.specs.Forms.{bytes2, bytes4, given2, given4, field};
+ghost use Rattle.fields.specs.Forms.{bytes2, bytes4, field};
 
 use writing::put_bytes;
 

@@ -1,5 +1,5 @@
 // The layout of a row of each kind: the texts that it begins with, and the numbers behind them.
-ghost use Rattle.std.specs.Prelude.{◌≡◌, ◌+◌, length};
+ghost use Rattle.std.specs.Prelude.{◌≡◌, length};
 ghost use Rattle.layout.specs.Layout as layout;
 
 use fields::reads::be4;

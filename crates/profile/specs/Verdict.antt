@@ -10,7 +10,7 @@
 --   Judged d v   a verdict is right: nothing exactly where the deposit passes, and otherwise a fault that names its row
 use Rattle.std.specs.Prelude.{◌≡◌, ℕ, ◌<◌, Some, None, Ok, Err, Option, Result, MatchOption}
 use Rattle.std.specs.Option.{option_map}
-use Rattle.std.specs.List.{ContainsAt as Has, AllByRecursion}
+use Rattle.std.specs.List.{ContainsAt, AllByRecursion}
 use Rattle.refusals.specs.declared.Kind.{Kind}
 use Rattle.refusals.specs.declared.Rule.{Rule}
 use Rattle.refusals.specs.declared.DepositFault as fault
@@ -40,7 +40,7 @@ pub record Passes (d : Deposit) : Type 0 where
   pub holds : AllByRecursion (λ r. Holds r d) rules
 
 pub record NamesRow (d : Deposit) (r : Rule) (k : Kind) (n : ℕ) : Type 0 where
-  pub judges : Has (judged r) k
+  pub judges : ContainsAt (judged r) k
   pub row : n < subjects r d k
   pub breaks : Sound r d k n → ⊥
   pub lower_rows : (m : ℕ) → m < n → Sound r d k m

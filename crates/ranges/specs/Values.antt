@@ -4,8 +4,8 @@
 --   between a b n    n is from a to b
 --   within           first + count is at most the length of the list
 --   below            a reference is a row of a list of that length
---   X-values         the values of a row of kind X are in their ranges
---   X-refs           its references are within the lists of the deposit
+--   X_values         the values of a row of kind X are in their ranges
+--   X_refs           its references are within the lists of the deposit
 --   in_range d k n   both, of row n of kind k
 use Rattle.std.specs.Prelude.{ℕ, ◌+◌, Bool, true, ◌&&◌, length, Some, None, Option, nat_le, nat_lt, slice_index_or}
 use Rattle.calendar.specs.Dates.{last_day}

@@ -5,7 +5,7 @@
 --   MomentIn         the day is in the calendar, and the second in the day
 --   HeadIn ..        the values of a row of that kind are in their ranges, and its references are rows of the deposit
 --   InRange d k n    this of row n of kind k
-use Rattle.std.specs.Prelude.{ℕ, ◌+◌, ◌<◌, ◌≤◌, length, get_or, Some, None, Option, slice_index_or}
+use Rattle.std.specs.Prelude.{ℕ, ◌+◌, ◌<◌, ◌≤◌, length, Some, None, Option, slice_index_or}
 use Rattle.calendar.specs.Dates.{last_day}
 use Rattle.times.specs.declared.moments.Moment.{Moment}
 use Rattle.refusals.specs.declared.Kind as kind
@@ -101,7 +101,7 @@ InRange d kinds.Profile n = ProfileIn d (slice_index_or d.profiles n no_profile)
 InRange d kinds.Special n = SpecialIn (slice_index_or d.specials n no_special)
 InRange d kinds.Link n = LinkIn d (slice_index_or d.links n no_link)
 InRange d kinds.Section n = SectionIn d (slice_index_or d.sections n no_section)
-InRange d kinds.Use n = (get_or d.uses n no_use).section < length d.sections
+InRange d kinds.Use n = (slice_index_or d.uses n no_use).section < length d.sections
 InRange d kinds.Pattern n = PatternIn d (slice_index_or d.patterns n no_pattern)
 InRange d kinds.Override n = OverrideIn (slice_index_or d.overrides n no_override)
 InRange d kinds.Journey n = JourneyIn d (slice_index_or d.journeys n no_journey)

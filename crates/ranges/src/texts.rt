@@ -1,5 +1,5 @@
 // Codes and names.
-ghost use Rattle.std.specs.Prelude.{◌≡◌, length, Decides};
+ghost use Rattle.std.specs.Prelude.{◌≡◌, Decides};
 ghost use Rattle.ranges.specs.Texts.{visible, all_visible, is_name, is_code, Name, Code};
 
 fn is_visible(byte: u8) -> bool

@@ -1,6 +1,5 @@
 // The ranges of the values of a row, whatever its deposit.
-ghost use Rattle.std.specs.Prelude.{◌≡◌, ◌≤◌};
-ghost use Rattle.calendar.specs.Dates.{last_day};
+ghost use Rattle.std.specs.Prelude.{◌≡◌};
 ghost use Rattle.deposit.specs.Deposit.{head_of, line_of, stop_of, journey_of};
 ghost use Rattle.ranges.specs.Values as test;
 

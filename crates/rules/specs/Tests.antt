@@ -16,7 +16,7 @@
 --   overriding_kept         a journey's overrides rise and lie inside its pattern
 --   codes_kept              a code repeats no earlier one of its kind
 --   kept r d k n            row n of kind k keeps rule r
-use Rattle.std.specs.Prelude.{ℕ, zero, suc, ◌+◌, ◌-◌, Bool, true, false, cond, not, ◌&&◌, ◌||◌, leb, List, [], ◌∷◌, length, get_or, is_some, Some, None, Option, ◌==◌, bit_and, nat_le, nat_lt, slice_index_or}
+use Rattle.std.specs.Prelude.{ℕ, zero, suc, ◌+◌, ◌-◌, Bool, true, false, cond, not, ◌&&◌, ◌||◌, List, [], ◌∷◌, length, is_some, Some, None, Option, ◌==◌, bit_and, nat_le, nat_lt, slice_index_or}
 use Rattle.times.specs.declared.moments.Moment.{Moment}
 use Rattle.times.specs.Moments.{later}
 use Rattle.refusals.specs.declared.Kind as kind
@@ -110,7 +110,7 @@ revision_kept h =
     (h.modification == 2 && modified_later h.created h.modified)
 
 abbrev pub period_kept : Head → Bool
-period_kept h = given (leb h.start) h.end
+period_kept h = given (nat_le h.start) h.end
 
 abbrev pub description_kept : Line → Bool
 description_kept l = nat_lt 0 (length l.outbound) || nat_lt 0 (length l.inbound)
@@ -190,7 +190,7 @@ overriding_kept d n = ends_by (length (links_along d n)) (rise_end 0 (overrides_
 abbrev pub code_at : Deposit → kind.Kind → ℕ → List ℕ
 code_at d kinds.Head n = []
 code_at d kinds.Line n = []
-code_at d kinds.Stop n = (get_or d.stops n no_stop).code
+code_at d kinds.Stop n = (slice_index_or d.stops n no_stop).code
 code_at d kinds.Profile n = []
 code_at d kinds.Special n = []
 code_at d kinds.Link n = []

@@ -15,7 +15,7 @@
 --   Distinct          no earlier row of the kind has that code
 --   Sound r d k n     what rule r asks of row n of kind k
 --   Holds r d         rule r holds: every row that it judges is sound
-use Rattle.std.specs.Prelude.{◌≡◌, ℕ, zero, suc, ◌+◌, ◌<◌, ◌≤◌, true, ◌⊎◌, List, length, get_or, Some, None, Option, ◌≢◌, bit_and, slice_index_or}
+use Rattle.std.specs.Prelude.{◌≡◌, ℕ, zero, suc, ◌+◌, ◌<◌, ◌≤◌, true, ◌⊎◌, List, length, Some, None, Option, ◌≢◌, bit_and, slice_index_or}
 use Rattle.std.specs.List.{AllByRecursion}
 use Rattle.times.specs.Moments.{later}
 use Rattle.refusals.specs.declared.Kind as kind
@@ -94,8 +94,8 @@ pub record Joins (ls : List LinkRow) : Type 0 where
   pub joins : (k : ℕ) → k + 1 < length ls → Meets (slice_index_or ls k no_link) (slice_index_or ls (k + 1) no_link)
 
 pub record Overrides (links : ℕ) (os : List OverrideRow) : Type 0 where
-  pub rises : (k : ℕ) → k + 1 < length os → (get_or os k no_override).position < (get_or os (k + 1) no_override).position
-  pub inside : (k : ℕ) → k < length os → (get_or os k no_override).position < links
+  pub rises : (k : ℕ) → k + 1 < length os → (slice_index_or os k no_override).position < (slice_index_or os (k + 1) no_override).position
+  pub inside : (k : ℕ) → k < length os → (slice_index_or os k no_override).position < links
 
 abbrev pub Distinct : Deposit → kind.Kind → ℕ → Type 0
 Distinct d k n = (m : ℕ) → m < n → code_at d k m ≢ code_at d k n

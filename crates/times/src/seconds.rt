@@ -1,6 +1,5 @@
 // Absolute times and lengths of time. Two absolute times are never added: there is no such sum.
 ghost use Rattle.std.specs.Prelude.{◌≡◌, ◌+◌, ◌^◌, ◌<◌};
-ghost use Rattle.std.specs.Option.{SomeIff};
 ghost use Rattle.times.specs.Sums.{Sum};
 
 use std::ops::Add;
