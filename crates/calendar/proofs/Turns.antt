@@ -1,32 +1,9 @@
 -- A day has one date, and a date one day. Assumes nothing.
-use Rattle.std.proofs.Common.{◌≡◌, ℕ, ◌+◌, ◌-◌, ◌<◌, ◌≤◌, cond, ◌⊎◌, get_or, Ok, Err, Result, sym, ap, ◌∙◌, subst, ⊎_elim, arith}
+use Rattle.std.proofs.Common.{◌≡◌, ℕ, ◌+◌, ◌-◌, ◌<◌, ◌≤◌, cond, Ok, Err, Result, sym, ap, ◌∙◌, subst, arith}
 use Rattle.refusals.specs.declared.Refusal.{Refusal}
-use Rattle.calendar.specs.Dates.{leap, leaps, year_start, lengths, month_start, last_day, Valid, Dated, Splits, Joins}
-use Rattle.calendar.proofs.Years.{Within, leaps_next, year_le, same_year}
+use Rattle.calendar.specs.Dates.{leap, leaps, year_start, month_start, last_day, Valid, Dated, Splits, Joins}
+use Rattle.calendar.proofs.Years.{leaps_next, year_le, same_year}
 use Rattle.calendar.proofs.Months.{month_more, month_end, year_length, same_month}
-
--- the search through the months stops in the month of the day
-pub left_less : (day n m left : ℕ) → Within day n → 1 ≤ m → m ≤ 12 → left + month_start (leap (2000 + n)) m ≡ day - year_start n → (left < get_or (lengths (leap (2000 + n))) (m - 1) 0) ⊎ (12 ≤ m) → left < get_or (lengths (leap (2000 + n))) (m - 1) 0
-left_less day n m left w a b e =
-    ⊎_elim (λ h. h)
-    (λ h.
-    let l = leap (2000 + n) in
-    let at : m ≡ 12 = omega arith in
-    let more = month_more l m a b in
-    let whole : month_start l (m + 1) ≡ 365 + cond l 1 0 = ap (λ k. month_start l (k + 1)) at ∙ year_length l in
-    let next = leaps_next n in
-    omega (arith, w.0, w.1.0, w.1.1))
-
-pub split_dated : (day n m left : ℕ) → Within day n → 1 ≤ m → m ≤ 12 → left + month_start (leap (2000 + n)) m ≡ day - year_start n → left < get_or (lengths (leap (2000 + n))) (m - 1) 0 → Dated day (2000 + n) m (left + 1)
-split_dated day n m left w a b e h =
-    let back : (2000 + n) - 2000 ≡ n = omega arith in
-    record {
-      valid = record { year_from = omega arith; year_to = omega (arith, w.0); month_from = a; month_to = b; day_from = omega arith; day_to = omega arith };
-      is = rw back (omega (arith, w.1.0));
-    }
-
-pub join_dated : (y m d a b n : ℕ) → Valid y m d → a ≡ year_start (y - 2000) → b ≡ month_start (leap y) m → n ≡ d → Dated (a + b + n - 1) y m d
-join_dated y m d a b n v e f g = record { valid = v; is = omega (arith, v.day_from) }
 
 -- the year of a date, and the month in its year, hold the day
 module _ (day y m d : ℕ) (t : Dated day y m d) where

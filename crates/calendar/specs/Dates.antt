@@ -5,6 +5,7 @@
 --   year_start n  the days before the year 2000 + n
 --   lengths l     the days of each month of a year, which is a leap year or not
 --   month_start   the days of the year before a month; months count from 1
+--   MonthHolds    a month of a year holds a day of the year, with so many of its days before it
 --   Month         two numbers are a year and a month of the calendar
 --   MonthTold     what is answered for them: the days of that month, or 40 where they are none
 --   Valid         three numbers are a date of the calendar
@@ -36,6 +37,12 @@ lengths l = 31 ∷ cond l 29 28 ∷ 31 ∷ 30 ∷ 31 ∷ 30 ∷ 31 ∷ 31 ∷ 30
 
 abbrev pub month_start : Bool → ℕ → ℕ
 month_start l m = sum (take (m - 1) (lengths l))
+
+pub record MonthHolds (l : Bool) (of_year m left : ℕ) : Type 0 where
+  pub month_from : 1 ≤ m
+  pub month_to : m ≤ 12
+  pub is : left + month_start l m ≡ of_year
+  pub within : left < slice_index (lengths l) (m - 1)
 
 pub record Month (y m : ℕ) : Type 0 where
   pub year_from : 2000 ≤ y

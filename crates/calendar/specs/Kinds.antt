@@ -5,7 +5,10 @@
 --   kind_name      its English name, as bytes
 --   told_kind      what a day book tells, as a number: 0 where it tells no kind
 --   kind_told      which kind a number stands for, as that same number, or 0 for a number that is none
-use Rattle.std.specs.Prelude.{ℕ, cond, List, Some, None, codes, Option, nat_le}
+--   KindRead       what reading a number answers: the kind that it stands for, or 40 for a number that is none
+use Rattle.std.specs.Prelude.{◌≡◌, ℕ, cond, List, Some, None, codes, Ok, Err, Option, Result, nat_le}
+use Rattle.refusals.specs.declared.Refusal.{Refusal}
+use Rattle.refusals.specs.declared.Refusal.TheVariants.{OutOfRange}
 use Rattle.calendar.specs.declared.books.HolidayKind.{HolidayKind}
 use Rattle.calendar.specs.declared.books.HolidayKind.TheVariants.{NewYearsDay, GoodFriday, EasterMonday, MayDay, SpringBank, LateSummerBank, ChristmasDay, BoxingDay}
 
@@ -38,3 +41,7 @@ told_kind (Some k) = kind_number k
 
 abbrev pub kind_told : ℕ → ℕ
 kind_told n = cond (nat_le n greatest_kind) n 0
+
+abbrev pub KindRead : ℕ → Result HolidayKind Refusal → Type 0
+KindRead n (Ok k) = kind_number k ≡ kind_told n
+KindRead n (Err e) = (kind_told n ≡ 0) × (e ≡ OutOfRange)

@@ -1,4 +1,4 @@
 pub mod Dates
+pub mod Made
 pub mod Weeks
 pub mod Kinds
-pub mod Words

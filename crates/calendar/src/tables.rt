@@ -6,7 +6,7 @@ use crate::weeks::Weekday;
 pub const MONTH_LENGTHS: [u8; 12] = [31, 28, 31, 30, 31, 30, 31, 31, 30, 31, 30, 31];
 
 /// The rule by which a holiday falls in each year.
-#[derive(Clone, Copy)]
+#[derive(Clone, Copy, Debug, PartialEq, Eq)]
 pub enum HolidayRule {
     /// On one date.
     Date { month: u8, of_month: u8 },
@@ -21,7 +21,7 @@ pub enum HolidayRule {
 }
 
 /// A holiday: its kind and its rule.
-#[derive(Clone, Copy)]
+#[derive(Clone, Copy, Debug, PartialEq, Eq)]
 pub struct Holiday {
     pub kind: HolidayKind,
     pub rule: HolidayRule,

@@ -3,15 +3,15 @@ ghost use Rattle.std.specs.Prelude.{◌≡◌};
 ghost use Rattle.calendar.specs.Weeks.{weekday_number, weekday_name, weekday_of, Week};
 
 /// A day of the week; a week begins on Monday, which has number 0.
-#[derive(Clone, Copy)]
+#[derive(Clone, Copy, Debug, PartialEq, Eq)]
 pub enum Weekday {
-    Monday,
-    Tuesday,
-    Wednesday,
-    Thursday,
-    Friday,
-    Saturday,
-    Sunday,
+    Monday = 0,
+    Tuesday = 1,
+    Wednesday = 2,
+    Thursday = 3,
+    Friday = 4,
+    Saturday = 5,
+    Sunday = 6,
 }
 
 impl Weekday {
@@ -20,6 +20,7 @@ impl Weekday {
         ensures value { weekday_number result ≡ weekday_of day }
         ensures week { Week }
     {
+        // A match and no `TryFrom`: a remainder is always a weekday, and a conversion that may fail would need an arm that never runs.
         match day % 7 {
             0 => Weekday::Saturday,
             1 => Weekday::Sunday,
@@ -35,29 +36,22 @@ impl Weekday {
     pub fn number(self) -> u8
         ensures value { result ≡ weekday_number self }
     {
-        match self {
-            Weekday::Monday => 0,
-            Weekday::Tuesday => 1,
-            Weekday::Wednesday => 2,
-            Weekday::Thursday => 3,
-            Weekday::Friday => 4,
-            Weekday::Saturday => 5,
-            Weekday::Sunday => 6,
-        }
+        self as u8
     }
 
+    // The table of names, as a match over the closed enum of weekdays.
     /// The English name.
-    pub fn name(self) -> &'static [u8]
+    pub fn name(self) -> &'static str
         ensures value { result.now ≡ weekday_name self }
     {
         match self {
-            Weekday::Monday => b"Monday",
-            Weekday::Tuesday => b"Tuesday",
-            Weekday::Wednesday => b"Wednesday",
-            Weekday::Thursday => b"Thursday",
-            Weekday::Friday => b"Friday",
-            Weekday::Saturday => b"Saturday",
-            Weekday::Sunday => b"Sunday",
+            Weekday::Monday => "Monday",
+            Weekday::Tuesday => "Tuesday",
+            Weekday::Wednesday => "Wednesday",
+            Weekday::Thursday => "Thursday",
+            Weekday::Friday => "Friday",
+            Weekday::Saturday => "Saturday",
+            Weekday::Sunday => "Sunday",
         }
     }
 }

@@ -1,6 +1,7 @@
 // Easter Sundays as the almanacs print them, the earliest and the latest of two centuries among them.
-use calendar::dates::split;
+use calendar::dates::{join, split};
 use computed_book::easter::easter_sunday;
+use refusals::Refusal;
 
 // Year, month, day of the month.
 const EASTERS: [(u16, u8, u8); 44] = [
@@ -50,26 +51,15 @@ const EASTERS: [(u16, u8, u8); 44] = [
     (2199, 4, 14),
 ];
 
-// The month and the day of the month of Easter Sunday, or the refusal's number in the place of the month.
-fn easter(year: u16) -> (u8, u8) {
-    match easter_sunday(year) {
-        Ok(day) => match split(day) {
-            Ok((_, month, of_month)) => (month, of_month),
-            Err(refusal) => (refusal.number(), 0),
-        },
-        Err(refusal) => (refusal.number(), 0),
-    }
-}
-
 #[test]
 fn easters_are_the_almanacs(rt: HostRuntime) {
-    for row in EASTERS.iter() {
-        let (year, month, of_month) = *row;
-        let (m, d) = easter(year);
-        assert!(rt; m == month && d == of_month);
+    for &(year, month, of_month) in &EASTERS {
+        assert_eq!(rt; easter_sunday(year), join(year, month, of_month));
+        assert_eq!(rt;
+            easter_sunday(year).and_then(split),
+            Ok((year, month, of_month))
+        );
     }
-    let (refused, _) = easter(1999);
-    assert!(rt; refused == 40);
-    let (refused, _) = easter(2200);
-    assert!(rt; refused == 40);
+    assert_eq!(rt; easter_sunday(1999), Err(Refusal::OutOfRange));
+    assert_eq!(rt; easter_sunday(2200), Err(Refusal::OutOfRange));
 }

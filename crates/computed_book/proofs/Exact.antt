@@ -1,13 +1,16 @@
 -- The kind that the rules give a day is each holiday's exactly on its day. Assumes nothing.
-use Rattle.std.proofs.Common.{◌≡◌, ℕ, suc, ◌+◌, ◌-◌, ◌<◌, ◌≤◌, Bool, true, cond, ◌&&◌, eqb, ltb, leb, get_or, sym, ap, ◌∙◌, subst, ⊎_elim, arith}
+use Rattle.std.proofs.Common.{◌≡◌, ℕ, suc, ◌+◌, ◌-◌, ◌<◌, ◌≤◌, ◌↔◌, Bool, true, cond, ◌&&◌, eqb, ltb, leb, get_or, IfSome, Ok, Err, Result, sym, ap, ◌∙◌, subst, ⊎_elim, arith}
 use Rattle.std.proofs.lemmas.Bool.{cases_lt, cond-true, le-leb, leb-true, lt-ltb, ltb-true, eqb-true, eq-eqb, and_parts, and_from}
 use Rattle.std.proofs.lemmas.Bool.Decides.{nat_tests}
 use Rattle.calendar.specs.Dates.{last_day, leap, leaps, year_start, lengths, month_start, Dated, date_of}
-use Rattle.calendar.specs.Words.{Exactly}
 use Rattle.calendar.specs.Weeks.{weekday_of}
 use Rattle.computed_book.specs.Easters.{easter_of}
 use Rattle.computed_book.specs.Rules.{first_kind, holidays, kind_on, computed_kind}
 use Rattle.computed_book.specs.Words.{On, Monday, FirstMonday, LastMonday, BeforeEaster, AfterEaster, Holidays}
+use Rattle.calendar.specs.declared.dates.Date.{Date}
+use Rattle.refusals.specs.declared.Refusal.{Refusal}
+use Rattle.calendar.specs.Made.{day_of, DateTold}
+use Rattle.std.specs.Result.{result_ok}
 use Rattle.calendar.proofs.Years.{leaps_next, same_year, year_le}
 use Rattle.calendar.proofs.Months.{month_more, month_le, year_length}
 use Rattle.calendar.proofs.Turns.{in_year, in_month, day_of_year, dated_le, one_year, one_month, one_day}
@@ -51,7 +54,7 @@ chain a b c d e f g h = cond a 1 (cond b 2 (cond c 3 (cond d 4 (cond e 5 (cond f
 
 module _ (s : ℕ) (a b c d e f g h : Bool) (at1 : a ≡ true → s ≡ 1) (at2 : b ≡ true → s ≡ 2) (at3 : c ≡ true → s ≡ 3) (at4 : d ≡ true → s ≡ 4) (at5 : e ≡ true → s ≡ 5) (at6 : f ≡ true → s ≡ 6) (at7 : g ≡ true → s ≡ 7) (at8 : h ≡ true → s ≡ 8) where
   picked :
-      Exactly (chain a b c d e f g h ≡ 1) (a ≡ true) × Exactly (chain a b c d e f g h ≡ 2) (b ≡ true) × Exactly (chain a b c d e f g h ≡ 3) (c ≡ true) × Exactly (chain a b c d e f g h ≡ 4) (d ≡ true) × Exactly (chain a b c d e f g h ≡ 5) (e ≡ true) × Exactly (chain a b c d e f g h ≡ 6) (f ≡ true) × Exactly (chain a b c d e f g h ≡ 7) (g ≡ true) × Exactly (chain a b c d e f g h ≡ 8) (h ≡ true)
+      ((chain a b c d e f g h ≡ 1) ↔ (a ≡ true)) × ((chain a b c d e f g h ≡ 2) ↔ (b ≡ true)) × ((chain a b c d e f g h ≡ 3) ↔ (c ≡ true)) × ((chain a b c d e f g h ≡ 4) ↔ (d ≡ true)) × ((chain a b c d e f g h ≡ 5) ↔ (e ≡ true)) × ((chain a b c d e f g h ≡ 6) ↔ (f ≡ true)) × ((chain a b c d e f g h ≡ 7) ↔ (g ≡ true)) × ((chain a b c d e f g h ≡ 8) ↔ (h ≡ true))
   picked = (
     (λ k. grind (arith, nat_tests), λ k. grind (arith, nat_tests, at1 k)),
     (λ k. grind (arith, nat_tests), λ k. grind (arith, nat_tests, at1, at2 k)),
@@ -63,7 +66,7 @@ module _ (s : ℕ) (a b c d e f g h : Bool) (at1 : a ≡ true → s ≡ 1) (at2 
     (λ k. grind (arith, nat_tests), λ k. grind (arith, nat_tests, at1, at2, at3, at4, at5, at6, at7, at8 k)),
   )
 
-through : {A B C : Type 0} → Exactly A B → Exactly B C → Exactly A C
+through : {A B C : Type 0} → (A ↔ B) → (B ↔ C) → A ↔ C
 through p q = (λ x. q.0 (p.0 x), λ z. p.1 (q.1 z))
 
 -- Mondays of one month lie whole weeks apart
@@ -96,7 +99,7 @@ week_after y m d day t h =
     on s d day e h = omega arith
 
 module _ (day y m d : ℕ) (t : Dated day y m d) where
-  on_date : (m0 d0 : ℕ) → Exactly ((eqb m m0 && eqb d d0) ≡ true) (On day m0 d0)
+  on_date : (m0 d0 : ℕ) → ((eqb m m0 && eqb d d0) ≡ true) ↔ On day m0 d0
   on_date m0 d0 = (
     λ e.
         let p = and_parts (eqb m m0) (eqb d d0) e in
@@ -112,7 +115,7 @@ module _ (day y m d : ℕ) (t : Dated day y m d) where
       let e : z - 2000 ≡ y - 2000 = same_year day (z - 2000) (y - 2000) i.0 i.1 j.0 j.1 in
       omega (arith, t.valid.year_from)
 
-  before_easter : Exactly (eqb (day + 2) (easter_of y) ≡ true) (BeforeEaster day 2)
+  before_easter : (eqb (day + 2) (easter_of y) ≡ true) ↔ BeforeEaster day 2
   before_easter = (
     λ e. (y, t.valid.year_from, t.valid.year_to, eqb-true (day + 2) (easter_of y) e),
     λ o.
@@ -121,7 +124,7 @@ module _ (day y m d : ℕ) (t : Dated day y m d) where
         eq-eqb (day + 2) (easter_of y) (f ∙ ap easter_of (year_about o.0 o.1 o.2 n.0 n.1)),
   )
 
-  after_easter : Exactly (eqb day (easter_of y + 1) ≡ true) (AfterEaster day 1)
+  after_easter : (eqb day (easter_of y + 1) ≡ true) ↔ AfterEaster day 1
   after_easter = (
     λ e. (y, t.valid.year_from, t.valid.year_to, eqb-true day (easter_of y + 1) e),
     λ o.
@@ -130,7 +133,7 @@ module _ (day y m d : ℕ) (t : Dated day y m d) where
         eq-eqb day (easter_of y + 1) (f ∙ ap (λ z. easter_of z + 1) (year_about o.0 o.1 o.2 n.0 n.1)),
   )
 
-  first_monday : (m0 : ℕ) → Exactly ((eqb m m0 && (eqb (weekday_of day) 0 && leb d 7)) ≡ true) (FirstMonday day m0)
+  first_monday : (m0 : ℕ) → ((eqb m m0 && (eqb (weekday_of day) 0 && leb d 7)) ≡ true) ↔ FirstMonday day m0
   first_monday m0 = (
     λ e.
         let p = and_parts (eqb m m0) (eqb (weekday_of day) 0 && leb d 7) e in
@@ -154,7 +157,7 @@ module _ (day y m d : ℕ) (t : Dated day y m d) where
       monday_back : (s d day : ℕ) → day ≡ s + (d - 1) → 7 < d → Monday day → Monday (day - 7)
       monday_back s d day e h k = omega arith
 
-  last_monday : (m0 : ℕ) → Exactly ((eqb m m0 && (eqb (weekday_of day) 0 && ltb (get_or (lengths (leap y)) (m - 1) 0) (d + 7))) ≡ true) (LastMonday day m0)
+  last_monday : (m0 : ℕ) → ((eqb m m0 && (eqb (weekday_of day) 0 && ltb (get_or (lengths (leap y)) (m - 1) 0) (d + 7))) ≡ true) ↔ LastMonday day m0
   last_monday m0 = (
     λ e.
         let r = ltb (get_or (lengths (leap y)) (m - 1) 0) (d + 7) in
@@ -291,8 +294,17 @@ module _ (day y m d : ℕ) (t : Dated day y m d) where
         boxing_day = through p.7 (on_date day y m d t 12 26);
       }
 
-  pub kind_told : (r : ℕ) → r ≡ first_kind holidays day y m d → (r ≡ computed_kind day) × Holidays day r
+  kind_told : (r : ℕ) → r ≡ first_kind holidays day y m d → (r ≡ computed_kind day) × Holidays day r
   kind_told r e = (e ∙ sym kind_is, subst (Holidays day) (sym e) words)
+
+-- a day's date, if it has one, is of that day
+pub day_told : (day : ℕ) (r : Result Date Refusal) → DateTold day r → IfSome (result_ok r) (λ date. day ≡ day_of date)
+day_told day (Ok date) t = t
+day_told day (Err e) t = tt
+
+pub date_told : (day : ℕ) (date : Date) (r : ℕ) → day ≡ day_of date → r ≡ first_kind holidays (day_of date) date.year date.month date.of_month → (r ≡ computed_kind day) × Holidays day r
+date_told day date r e h =
+    kind_told day date.year date.month date.of_month (record { valid = date.valid; is = e }) r (h ∙ ap (λ n. first_kind holidays n date.year date.month date.of_month) (sym e))
 
 -- past the calendar there is no holiday
 pub no_words : (day : ℕ) → last_day < day → Holidays day 0
@@ -307,7 +319,7 @@ no_words day h = record {
   boxing_day = none (λ o. dated_none o.0 12 26 o.1);
 }
   where
-    none : {k : ℕ} {B : Type 0} → (B → ⊥) → Exactly (0 ≡ suc k) B
+    none : {k : ℕ} {B : Type 0} → (B → ⊥) → (0 ≡ suc k) ↔ B
     none f = (λ e. absurd (omega arith), λ b. absurd (f b))
 
     dated_none : (y m d : ℕ) → Dated day y m d → ⊥

@@ -7,7 +7,8 @@ use refusals::Refusal;
 
 // The month and the day of the month of Easter Sunday, by the Meeus/Jones/Butcher rule and with its letters.
 fn easter_date(year: u16) -> (u8, u8)
-    requires { (2000 ≤ year) × (year < 2200) }
+    requires from { 2000 ≤ year }
+    requires to { year < 2200 }
     ensures { result ≡ rule_date year }
 {
     let a = year % 19;
@@ -31,7 +32,7 @@ pub fn easter_sunday(year: u16) -> Result<u32, Refusal>
     ensures answer { EasterTold year result }
     ensures feast { IfOk result (Paschal year) }
 {
-    if year < 2000 || year >= 2200 {
+    if !(2000..2200).contains(&year) {
         return Err(Refusal::OutOfRange);
     }
     let (month, of_month) = easter_date(year);

@@ -8,7 +8,8 @@
 --   kind_by     the same up to the calendar's last day; 0 past it, whatever is listed
 --   kind_after  what the list tells of a day when a new entry has come: of the new entry's day, if no entry was of that day
 --               before, the new kind; of any other day, and of a day that was listed before, what it told before
-use Rattle.std.specs.Prelude.{ℕ, Bool, false, cond, not, ◌&&◌, ◌||◌, List, [], ◌∷◌, ◌==◌, nat_le}
+use Rattle.std.specs.Prelude.{ℕ, Bool, cond, not, ◌&&◌, List, [], ◌∷◌, ◌==◌, nat_le}
+use Rattle.std.specs.List.{list_any}
 use Rattle.calendar.specs.Dates.{last_day}
 use Rattle.calendar.specs.Kinds.{kind_told}
 use Rattle.day_books.specs.declared.dated.DatedKind.{DatedKind}
@@ -20,8 +21,7 @@ abbrev pub no_later : DatedKind → DatedKind → Bool
 no_later x y = nat_le x.day y.day
 
 abbrev pub has_day : List DatedKind → ℕ → Bool
-has_day [] d = false
-has_day (x ∷ xs) d = x.day == d || has_day xs d
+has_day xs d = list_any (λ x. x.day == d) xs
 
 abbrev pub first_kind : List DatedKind → ℕ → ℕ
 first_kind [] d = 0

@@ -5,9 +5,10 @@ ghost use Rattle.std.proofs.Common.{rules};
 use ranked::Rank;
 
 /// An entry: a day and the number of a kind. Any day and any number are taken; what they tell is the book's to say.
-#[derive(Clone, Copy)]
+#[derive(Clone, Copy, Debug, PartialEq, Eq)]
 pub struct DatedKind {
     pub day: u32,
+    /// A number and no `HolidayKind`: a planner may list any number, and asking for a kind would ask more of callers.
     pub kind: u8,
 }
 

@@ -1,9 +1,8 @@
 // The listed book: entries in the order of their days, of which the first of a day decides.
-ghost use Rattle.std.specs.Prelude.{◌≡◌, ℕ, true, [], ◌∷◌, OnOk};
+ghost use Rattle.std.specs.Prelude.{◌≡◌, ℕ, true, [], ◌∷◌, ◌≤◌, length, take, unwrap_or, OnOk};
 ghost use Rattle.std.specs.List.Sorted.{IsPermutation};
 ghost use Rattle.ranked.specs.Placing.{in_order};
 ghost use Rattle.day_books.specs.Entries.{dated, no_later, first_kind, kind_after};
-ghost use Rattle.day_books.specs.Books.{listed, book_kind, book_few, book_ends, Added};
 
 use crate::dated::DatedKind;
 use calendar::books::{DayBook, HolidayKind};
@@ -11,14 +10,19 @@ use calendar::dates::LAST_DAY;
 use ranked::insert;
 use refusals::Refusal;
 
-/// A book of listed days over a list that its owner lends: its first `count` rows are the entries.
+/// A book of listed days over a list that its owner lends: its first `count` rows are the entries, in the order of their days.
+// A list with a count beside it and no `Vec`: lists are lent, since the archive has no heap.
 #[derive(Drop)]
 pub struct ListedBook<'a> {
     entries: &'a mut [DatedKind],
     count: usize,
+    ghost within: { count ≤ length entries.now },
+    ghost ordered: { in_order no_later (take count entries.now) ≡ true },
 }
 
 impl<'a> ListedBook<'a> {
+    ghost use Rattle.day_books.specs.Books.{listed, book_kind, Added};
+
     /// An empty book over a list, whatever the list holds.
     pub fn over(entries: &'a mut [DatedKind]) -> ListedBook<'a>
         ensures value { listed result ≡ [] }
@@ -32,42 +36,36 @@ impl<'a> ListedBook<'a> {
     /// Lists a day with a kind, behind the entries of that day and before those of later days. A full list refuses with 44.
     pub fn add(&mut self, day: u32, kind: u8) -> Result<(), Refusal>
         ensures answer { Added (dated day kind) self.old self.new result }
-        ensures order { in_order no_later (listed self.old) ≡ true → in_order no_later (listed self.new) ≡ true }
+        ensures order { in_order no_later (listed self.new) ≡ true }
         ensures holds { OnOk result (IsPermutation (dated day kind ∷ listed self.old) (listed self.new)) }
         ensures after { OnOk result ((d : ℕ) → book_kind self.new d ≡ kind_after (dated day kind) (listed self.old) d) }
         ensures same { self.new.entries.ghost_name ≡ self.old.entries.ghost_name }
     {
-        let count = self.count;
-        self.count = insert(self.entries, count, DatedKind { day, kind })?;
+        self.count = insert(self.entries, self.count, DatedKind { day, kind })?;
         Ok(())
     }
 
-    // The entries; a count past the end of the list means all of it.
     fn listed_entries(&self) -> &[DatedKind]
         ensures { result.now ≡ listed self.now }
     {
-        if self.count < self.entries.len() {
-            &self.entries[..self.count]
-        } else {
-            self.entries
-        }
+        &self.entries[..self.count]
     }
 }
 
-// The number that the first entry of a day has, or 0.
-fn first_kind(entries: &[DatedKind], day: u32) -> u8
-    ensures { result ≡ first_kind entries.now day }
+// The number that the first entry of a day has.
+fn first_kind(entries: &[DatedKind], day: u32) -> Option<u8>
+    ensures { unwrap_or result 0 ≡ first_kind entries.now day }
 {
-    for entry in entries {
-        if entry.day == day {
-            return entry.kind;
-        }
-    }
-    0
+    entries
+        .iter()
+        .find(|entry| entry.day == day)
+        .map(|entry| entry.kind)
 }
 
 /// The first entry of a day decides, also one whose number is no kind; past the calendar no day is a holiday.
 impl<'a> DayBook for ListedBook<'a> {
+    ghost use Rattle.day_books.specs.Books.{book_kind, book_few, book_ends};
+
     ghost kind_of = { book_kind };
 
     ghost few = { book_few };
@@ -78,6 +76,7 @@ impl<'a> DayBook for ListedBook<'a> {
         if day > LAST_DAY {
             return None;
         }
-        HolidayKind::from_number(first_kind(self.listed_entries(), day))
+        let kind = first_kind(self.listed_entries(), day)?;
+        HolidayKind::try_from(kind).ok()
     }
 }

@@ -16,6 +16,7 @@ pub trait Carrier {
     fn count(&self, kind: Kind) -> usize
         ensures { result ≡ count_of (meaning self.now) kind };
 
+    // A method for each kind: the rows differ in type, and one `row::<R>` would ask a trait of eleven impls from every carrier.
     fn head(&self, row: usize) -> HeadRow<'_>
         ensures { head_of result ≡ slice_index_or (meaning self.now).heads row no_head };
 

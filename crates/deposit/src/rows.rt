@@ -2,7 +2,7 @@
 use times::moments::Moment;
 
 /// 1: the service, its revision and its operating period.
-#[derive(Clone, Copy)]
+#[derive(Clone, Copy, Debug, Default, PartialEq, Eq)]
 pub struct HeadRow<'a> {
     pub service: &'a [u8],
     pub revision: u16,
@@ -15,7 +15,7 @@ pub struct HeadRow<'a> {
 }
 
 /// 2: a line, with a description of each direction; an empty text describes nothing.
-#[derive(Clone, Copy)]
+#[derive(Clone, Copy, Debug, Default, PartialEq, Eq)]
 pub struct LineRow<'a> {
     pub name: &'a [u8],
     pub outbound: &'a [u8],
@@ -23,14 +23,14 @@ pub struct LineRow<'a> {
 }
 
 /// 3: a stop.
-#[derive(Clone, Copy)]
+#[derive(Clone, Copy, Debug, Default, PartialEq, Eq)]
 pub struct StopRow<'a> {
     pub code: &'a [u8],
     pub name: &'a [u8],
 }
 
 /// 4: an operating profile: weekdays by bits from Monday, holidays by bits from kind 1, and special days.
-#[derive(Clone, Copy)]
+#[derive(Clone, Copy, Debug, Default, PartialEq, Eq)]
 pub struct ProfileRow {
     pub weekdays: u8,
     pub runs: u16,
@@ -40,7 +40,7 @@ pub struct ProfileRow {
 }
 
 /// 5: special days, on which a journey runs, 1, or does not, 0.
-#[derive(Clone, Copy)]
+#[derive(Clone, Copy, Debug, Default, PartialEq, Eq)]
 pub struct SpecialRow {
     pub first: u32,
     pub last: u32,
@@ -48,7 +48,7 @@ pub struct SpecialRow {
 }
 
 /// 6: a timing link from one stop to the next.
-#[derive(Clone, Copy)]
+#[derive(Clone, Copy, Debug, Default, PartialEq, Eq)]
 pub struct LinkRow {
     pub from: u16,
     pub to: u16,
@@ -60,20 +60,20 @@ pub struct LinkRow {
 }
 
 /// 7: a section: timing links in a row.
-#[derive(Clone, Copy)]
+#[derive(Clone, Copy, Debug, Default, PartialEq, Eq)]
 pub struct SectionRow {
     pub first_link: u16,
     pub links: u16,
 }
 
 /// 8: the use of a section in a pattern.
-#[derive(Clone, Copy)]
+#[derive(Clone, Copy, Debug, Default, PartialEq, Eq)]
 pub struct UseRow {
     pub section: u16,
 }
 
 /// 9: a journey pattern: uses of sections in a row.
-#[derive(Clone, Copy)]
+#[derive(Clone, Copy, Debug, Default, PartialEq, Eq)]
 pub struct PatternRow {
     pub direction: u8,
     pub first_use: u16,
@@ -81,7 +81,7 @@ pub struct PatternRow {
 }
 
 /// 10: other times of one journey on the link at a position of its pattern.
-#[derive(Clone, Copy)]
+#[derive(Clone, Copy, Debug, Default, PartialEq, Eq)]
 pub struct OverrideRow {
     pub position: u16,
     pub run: Option<u32>,
@@ -90,7 +90,7 @@ pub struct OverrideRow {
 }
 
 /// 11: a vehicle journey.
-#[derive(Clone, Copy)]
+#[derive(Clone, Copy, Debug, Default, PartialEq, Eq)]
 pub struct JourneyRow<'a> {
     pub code: &'a [u8],
     pub line: u16,

@@ -1,10 +1,6 @@
 // A deposit in the depositor's tables: lent slices of rows.
 ghost use Rattle.deposit.specs.Tables.{tables_mean};
 
-use crate::blanks::{
-    NO_HEAD, NO_JOURNEY, NO_LINE, NO_LINK, NO_OVERRIDE, NO_PATTERN, NO_PROFILE, NO_SECTION,
-    NO_SPECIAL, NO_STOP, NO_USE,
-};
 use crate::carrier::Carrier;
 use crate::rows::{
     HeadRow, JourneyRow, LineRow, LinkRow, OverrideRow, PatternRow, ProfileRow, SectionRow,
@@ -12,6 +8,7 @@ use crate::rows::{
 };
 use refusals::Kind;
 
+// Lent slices and no `Vec`: the archive has no heap.
 /// One table for each kind of row: `'a` lends the tables, `'t` the texts in them.
 #[derive(Clone, Copy)]
 pub struct Tables<'a, 't> {
@@ -28,9 +25,11 @@ pub struct Tables<'a, 't> {
     pub journeys: &'a [JourneyRow<'t>],
 }
 
+// Each read is one chain of the library: a generic function over a table would say no less.
 impl Carrier for Tables<'_, '_> {
     ghost meaning = { tables_mean };
 
+    // One arm for each kind, since its table is of a type of its own.
     fn count(&self, kind: Kind) -> usize {
         match kind {
             Kind::Head => self.heads.len(),
@@ -48,90 +47,46 @@ impl Carrier for Tables<'_, '_> {
     }
 
     fn head(&self, row: usize) -> HeadRow<'_> {
-        if row < self.heads.len() {
-            self.heads[row]
-        } else {
-            NO_HEAD
-        }
+        self.heads.get(row).copied().unwrap_or_default()
     }
 
     fn line(&self, row: usize) -> LineRow<'_> {
-        if row < self.lines.len() {
-            self.lines[row]
-        } else {
-            NO_LINE
-        }
+        self.lines.get(row).copied().unwrap_or_default()
     }
 
     fn stop(&self, row: usize) -> StopRow<'_> {
-        if row < self.stops.len() {
-            self.stops[row]
-        } else {
-            NO_STOP
-        }
+        self.stops.get(row).copied().unwrap_or_default()
     }
 
     fn profile(&self, row: usize) -> ProfileRow {
-        if row < self.profiles.len() {
-            self.profiles[row]
-        } else {
-            NO_PROFILE
-        }
+        self.profiles.get(row).copied().unwrap_or_default()
     }
 
     fn special(&self, row: usize) -> SpecialRow {
-        if row < self.specials.len() {
-            self.specials[row]
-        } else {
-            NO_SPECIAL
-        }
+        self.specials.get(row).copied().unwrap_or_default()
     }
 
     fn link(&self, row: usize) -> LinkRow {
-        if row < self.links.len() {
-            self.links[row]
-        } else {
-            NO_LINK
-        }
+        self.links.get(row).copied().unwrap_or_default()
     }
 
     fn section(&self, row: usize) -> SectionRow {
-        if row < self.sections.len() {
-            self.sections[row]
-        } else {
-            NO_SECTION
-        }
+        self.sections.get(row).copied().unwrap_or_default()
     }
 
     fn use_of_section(&self, row: usize) -> UseRow {
-        if row < self.uses.len() {
-            self.uses[row]
-        } else {
-            NO_USE
-        }
+        self.uses.get(row).copied().unwrap_or_default()
     }
 
     fn pattern(&self, row: usize) -> PatternRow {
-        if row < self.patterns.len() {
-            self.patterns[row]
-        } else {
-            NO_PATTERN
-        }
+        self.patterns.get(row).copied().unwrap_or_default()
     }
 
     fn override_row(&self, row: usize) -> OverrideRow {
-        if row < self.overrides.len() {
-            self.overrides[row]
-        } else {
-            NO_OVERRIDE
-        }
+        self.overrides.get(row).copied().unwrap_or_default()
     }
 
     fn journey(&self, row: usize) -> JourneyRow<'_> {
-        if row < self.journeys.len() {
-            self.journeys[row]
-        } else {
-            NO_JOURNEY
-        }
+        self.journeys.get(row).copied().unwrap_or_default()
     }
 }

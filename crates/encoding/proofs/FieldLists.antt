@@ -1,5 +1,5 @@
 -- Fields one behind the other, and the rows of kinds one behind the other. Assumes nothing.
-use Rattle.std.proofs.Common.{◌≡◌, ℕ, ◌+◌, ◌<◌, ◌≤◌, List, [], ◌∷◌, ◌++◌, length, get_or, take, drop, sym, refl, ap, ◌∙◌, append_assoc, append-nil, arith, length-append, take-append-drop}
+use Rattle.std.proofs.Common.{◌≡◌, ℕ, ◌+◌, ◌-◌, ◌<◌, ◌≤◌, List, [], ◌∷◌, ◌++◌, length, get_or, take, drop, sym, refl, ap, ◌∙◌, append_assoc, append-nil, arith, length-append, length-drop, take-append-drop}
 use Rattle.std.proofs.lemmas.List.{take_more, length-map, get_or-map}
 use Rattle.refusals.specs.declared.Kind as kind
 use Rattle.refusals.specs.declared.Kind.TheVariants as kinds
@@ -7,6 +7,10 @@ use Rattle.refusals.specs.Numbers.{kind_number}
 use Rattle.deposit.specs.Deposit.{Deposit, count_of, no_head, no_line, no_stop, no_profile, no_special, no_link, no_section, no_use, no_pattern, no_override, no_journey}
 use Rattle.fields.specs.Forms.{field}
 use Rattle.layout.specs.Writing.{bodies, fields_of, rows_of, head_body, line_body, stop_body, profile_body, special_body, link_body, section_body, use_body, pattern_body, override_body, journey_body}
+use Rattle.writing.specs.Puts.{Put}
+use Rattle.writing.proofs.Putting.{then, put_as, put_length}
+use borrow.Rule.Slice.PartMut.{put_mid}
+use Rattle.encoding.proofs.Behind.{part_is, put_behind}
 use Rattle.encoding.specs.Rows.{body_at}
 use Rattle.encoding.proofs.RowLengths.{length-field}
 
@@ -70,6 +74,12 @@ module _ (d : Deposit) (k : kind.Kind) (n : ℕ) (h : n < count_of d k) where
       ∙ length-append (fields_of (kind_number k) (take n (bodies d k))) (field (kind_number k) (body_at d k n))
       ∙ ap (λ m. length (fields_of (kind_number k) (take n (bodies d k))) + m) (length-field (kind_number k) (body_at d k n))
 
+  pub kind_fits : {old out : List ℕ} {next : ℕ} → length (fields_of (kind_number k) (bodies d k)) ≤ length old → Put old 0 (fields_of (kind_number k) (take n (bodies d k))) out next → 3 + length (body_at d k n) ≤ length (take (length out - next) (drop next out))
+  kind_fits {old} {out} {next} room p = omega (arith, room, kind_room, p.next, put_length p, ap length (part_is out next), length-drop next out)
+
+  pub kind_put : {old mid part : List ℕ} {next taken : ℕ} → Put old 0 (fields_of (kind_number k) (take n (bodies d k))) mid next → Put (take (length mid - next) (drop next mid)) 0 (field (kind_number k) (body_at d k n)) part taken → Put old 0 (fields_of (kind_number k) (take (n + 1) (bodies d k))) (put_mid next (length mid - next) mid part) (next + taken)
+  kind_put p q = put_as (sym kind_more) (then p (put_behind (omega (arith, p.next, p.room, put_length p)) q))
+
 -- kinds one by one
 rows_append : (d : Deposit) (js ks : List kind.Kind) → rows_of d (js ++ ks) ≡ rows_of d js ++ rows_of d ks
 rows_append d [] ks = refl
@@ -91,3 +101,9 @@ module _ (d : Deposit) (ks : List kind.Kind) (i : ℕ) (e : kind.Kind) (h : i < 
   rows_room =
       let all : rows_of d (take (i + 1) ks) ++ rows_of d (drop (i + 1) ks) ≡ rows_of d ks = sym (rows_append d (take (i + 1) ks) (drop (i + 1) ks)) ∙ ap (rows_of d) (take-append-drop (i + 1) ks) in
       omega (arith, ap length all, length-append (rows_of d (take (i + 1) ks)) (rows_of d (drop (i + 1) ks)), rows_long)
+
+  pub rows_fit : {old out : List ℕ} {next : ℕ} → length (rows_of d ks) ≤ length old → Put old 0 (rows_of d (take i ks)) out next → length (fields_of (kind_number (get_or ks i e)) (bodies d (get_or ks i e))) ≤ length (take (length out - next) (drop next out))
+  rows_fit {old} {out} {next} room p = omega (arith, room, rows_room, p.next, put_length p, ap length (part_is out next), length-drop next out)
+
+  pub rows_put : {old mid part : List ℕ} {next taken : ℕ} → Put old 0 (rows_of d (take i ks)) mid next → Put (take (length mid - next) (drop next mid)) 0 (fields_of (kind_number (get_or ks i e)) (bodies d (get_or ks i e))) part taken → Put old 0 (rows_of d (take (i + 1) ks)) (put_mid next (length mid - next) mid part) (next + taken)
+  rows_put p q = put_as (sym rows_more) (then p (put_behind (omega (arith, p.next, p.room, put_length p)) q))

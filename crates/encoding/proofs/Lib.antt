@@ -1,7 +1,7 @@
-pub mod InFields
 pub mod RowLengths
 pub mod Ranged
 pub mod FieldLists
-pub mod Passing
-pub mod Answering
+pub mod Judged
+pub mod Behind
+pub mod Written
 pub mod ReadAgain

@@ -1,4 +1,4 @@
--- What writing assumes of a deposit, and the bytes of its rows one by one. Assumes nothing.
+-- What holds of a deposit that passes, as far as writing needs it, and the bytes of its rows one by one. Assumes nothing.
 --
 --   Fit d           no kind has more rows than it may, and every row is in its ranges, as the rules ask
 --   body_at d k n   the content of row n of kind k

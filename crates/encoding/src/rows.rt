@@ -1,165 +1,306 @@
-// Writing one row of each kind as a field, into bytes that have room for it.
-ghost use Rattle.std.specs.Prelude.{◌+◌, ◌≤◌, length};
+// The rows of each kind as values that stand in bytes.
+ghost use Rattle.std.specs.Prelude.{◌≡◌, ◌+◌, ◌≤◌, length};
 ghost use Rattle.writing.specs.Puts.{Put};
+ghost use Rattle.refusals.specs.declared.Kind.{Kind};
+ghost use Rattle.refusals.specs.declared.Kind.TheVariants as kinds;
+ghost use Rattle.refusals.specs.Numbers.{kind_number};
 ghost use Rattle.fields.specs.Forms.{field};
 ghost use Rattle.deposit.specs.Deposit.{head_of, line_of, stop_of, journey_of};
-ghost use Rattle.layout.specs.Writing.{head_numbers, head_body, line_body, stop_body, profile_body, special_body, link_body, section_body, use_body, pattern_body, override_body, journey_numbers, journey_body};
+ghost use Rattle.layout.specs.Writing.{head_body, line_body, stop_body, profile_body, special_body, link_body, section_body, use_body, pattern_body, override_body, journey_body};
 
-use crate::values::{
-    put_given_moment, put_given_u16, put_given_u32, put_moment, put_tag, put_text,
-};
+use crate::parts::Part;
 use deposit::rows::{
     HeadRow, JourneyRow, LineRow, LinkRow, OverrideRow, PatternRow, ProfileRow, SectionRow,
     SpecialRow, StopRow, UseRow,
 };
-use fields::writes::{put_byte, put_u16, put_u32};
+use layout::table::width;
+use refusals::Kind;
 
-// The numbers of a head, behind its text.
-fn put_head_numbers(out: &mut [u8], at: usize, row: HeadRow<'_>) -> usize
-    requires { at + 29 ≤ length out.old }
-    ensures { Put out.old at (head_numbers (head_of row.entry)) out.new result }
-{
-    let created = put_u16(out, at, row.revision);
-    let modified = put_moment(out, created, row.created);
-    let modification = put_given_moment(out, modified, row.modified);
-    let start = put_byte(out, modification, row.modification);
-    let end = put_u32(out, start, row.start);
-    let profile = put_given_u32(out, end, row.end);
-    put_given_u16(out, profile, row.profile)
+/// The row of a kind, which is the content of a field.
+pub(crate) trait Row: Part {
+    ghost kind: { Kind };
+
+    fn kind(self) -> Kind
+        ensures { result ≡ kind };
+
+    /// How many bytes it takes.
+    fn size(self) -> usize
+        requires { Self.can_put self }
+        ensures value { result ≡ length (Self.bytes_of self) }
+        ensures few { result ≤ 197 };
 }
 
-pub(crate) fn put_head(out: &mut [u8], at: usize, row: HeadRow<'_>) -> usize
-    requires short { length row.service.now ≤ 24 }
-    requires room { at + 35 + length row.service.now ≤ length out.old }
-    ensures { Put out.old at (field 1 (head_body (head_of row.entry))) out.new result }
+/// Writes a row as a field, with the number of its kind as tag. The caller has seen to the room.
+pub(crate) fn put_field<R: Row>(out: &mut [u8], row: R) -> usize
+    requires can { R.can_put row }
+    requires room { 3 + length (R.bytes_of row) ≤ length out.old }
+    ensures { Put out.old 0 (field (kind_number R.kind) (R.bytes_of row)) out.new result }
 {
-    let service = put_tag(out, at, 1, 32 + row.service.len());
-    let numbers = put_text(out, service, row.service);
-    put_head_numbers(out, numbers, row)
+    row.kind()
+        .number()
+        .then(row.size() as u16)
+        .then(row)
+        .put(out)
 }
 
-pub(crate) fn put_line(out: &mut [u8], at: usize, row: LineRow<'_>) -> usize
-    requires short { length row.name.now + length row.outbound.now + length row.inbound.now ≤ 184 }
-    requires room { at + 12 + length row.name.now + length row.outbound.now + length row.inbound.now ≤ length out.old }
-    ensures { Put out.old at (field 2 (line_body (line_of row.entry))) out.new result }
-{
-    let name = put_tag(
-        out,
-        at,
-        2,
-        9 + row.name.len() + row.outbound.len() + row.inbound.len(),
-    );
-    let outbound = put_text(out, name, row.name);
-    let inbound = put_text(out, outbound, row.outbound);
-    put_text(out, inbound, row.inbound)
+impl Part for HeadRow<'_> {
+    ghost bytes_of = { λ row. head_body (head_of row) };
+
+    ghost can_put = { λ row. length row.service.now ≤ 24 };
+
+    fn put(self, out: &mut [u8]) -> usize {
+        let numbers = self
+            .revision
+            .then(self.created)
+            .then(self.modified)
+            .then(self.modification)
+            .then(self.start)
+            .then(self.end)
+            .then(self.profile);
+        self.service.then(numbers).put(out)
+    }
 }
 
-pub(crate) fn put_stop(out: &mut [u8], at: usize, row: StopRow<'_>) -> usize
-    requires short { length row.code.now + length row.name.now ≤ 60 }
-    requires room { at + 9 + length row.code.now + length row.name.now ≤ length out.old }
-    ensures { Put out.old at (field 3 (stop_body (stop_of row.entry))) out.new result }
-{
-    let code = put_tag(out, at, 3, 6 + row.code.len() + row.name.len());
-    let name = put_text(out, code, row.code);
-    put_text(out, name, row.name)
+impl Row for HeadRow<'_> {
+    ghost kind = { kinds.Head };
+
+    fn kind(self) -> Kind {
+        Kind::Head
+    }
+
+    fn size(self) -> usize {
+        3 + self.service.len() + width(self.kind())
+    }
 }
 
-pub(crate) fn put_profile(out: &mut [u8], at: usize, row: ProfileRow) -> usize
-    requires masks { (row.runs ≤ 255) × (row.not_runs ≤ 255) }
-    requires room { at + 10 ≤ length out.old }
-    ensures { Put out.old at (field 4 (profile_body row)) out.new result }
-{
-    let weekdays = put_tag(out, at, 4, 7);
-    let runs = put_byte(out, weekdays, row.weekdays);
-    let not_runs = put_byte(out, runs, row.runs as u8);
-    let first = put_byte(out, not_runs, row.not_runs as u8);
-    let count = put_u16(out, first, row.first_special);
-    put_u16(out, count, row.specials)
+impl Part for LineRow<'_> {
+    ghost bytes_of = { λ row. line_body (line_of row) };
+
+    ghost can_put = { λ row. length row.name.now + length row.outbound.now + length row.inbound.now ≤ 184 };
+
+    fn put(self, out: &mut [u8]) -> usize {
+        self.name.then(self.outbound.then(self.inbound)).put(out)
+    }
 }
 
-pub(crate) fn put_special(out: &mut [u8], at: usize, row: SpecialRow) -> usize
-    requires { at + 12 ≤ length out.old }
-    ensures { Put out.old at (field 5 (special_body row)) out.new result }
-{
-    let first = put_tag(out, at, 5, 9);
-    let last = put_u32(out, first, row.first);
-    let runs = put_u32(out, last, row.last);
-    put_byte(out, runs, row.runs)
+impl Row for LineRow<'_> {
+    ghost kind = { kinds.Line };
+
+    fn kind(self) -> Kind {
+        Kind::Line
+    }
+
+    fn size(self) -> usize {
+        9 + self.name.len() + self.outbound.len() + self.inbound.len()
+    }
 }
 
-pub(crate) fn put_link(out: &mut [u8], at: usize, row: LinkRow) -> usize
-    requires { at + 21 ≤ length out.old }
-    ensures { Put out.old at (field 6 (link_body row)) out.new result }
-{
-    let from = put_tag(out, at, 6, 18);
-    let to = put_u16(out, from, row.from);
-    let run = put_u16(out, to, row.to);
-    let from_wait = put_u32(out, run, row.run);
-    let to_wait = put_u32(out, from_wait, row.from_wait);
-    let from_activity = put_u32(out, to_wait, row.to_wait);
-    let to_activity = put_byte(out, from_activity, row.from_activity);
-    put_byte(out, to_activity, row.to_activity)
+impl Part for StopRow<'_> {
+    ghost bytes_of = { λ row. stop_body (stop_of row) };
+
+    ghost can_put = { λ row. length row.code.now + length row.name.now ≤ 60 };
+
+    fn put(self, out: &mut [u8]) -> usize {
+        self.code.then(self.name).put(out)
+    }
 }
 
-pub(crate) fn put_section(out: &mut [u8], at: usize, row: SectionRow) -> usize
-    requires { at + 7 ≤ length out.old }
-    ensures { Put out.old at (field 7 (section_body row)) out.new result }
-{
-    let first = put_tag(out, at, 7, 4);
-    let count = put_u16(out, first, row.first_link);
-    put_u16(out, count, row.links)
+impl Row for StopRow<'_> {
+    ghost kind = { kinds.Stop };
+
+    fn kind(self) -> Kind {
+        Kind::Stop
+    }
+
+    fn size(self) -> usize {
+        6 + self.code.len() + self.name.len()
+    }
 }
 
-pub(crate) fn put_use(out: &mut [u8], at: usize, row: UseRow) -> usize
-    requires { at + 5 ≤ length out.old }
-    ensures { Put out.old at (field 8 (use_body row)) out.new result }
-{
-    let section = put_tag(out, at, 8, 2);
-    put_u16(out, section, row.section)
+impl Part for ProfileRow {
+    ghost bytes_of = { profile_body };
+
+    ghost can_put = { λ row. (row.runs ≤ 255) × (row.not_runs ≤ 255) };
+
+    fn put(self, out: &mut [u8]) -> usize {
+        self.weekdays
+            .then(self.runs as u8)
+            .then(self.not_runs as u8)
+            .then(self.first_special)
+            .then(self.specials)
+            .put(out)
+    }
 }
 
-pub(crate) fn put_pattern(out: &mut [u8], at: usize, row: PatternRow) -> usize
-    requires { at + 8 ≤ length out.old }
-    ensures { Put out.old at (field 9 (pattern_body row)) out.new result }
-{
-    let direction = put_tag(out, at, 9, 5);
-    let first = put_byte(out, direction, row.direction);
-    let count = put_u16(out, first, row.first_use);
-    put_u16(out, count, row.uses)
+impl Row for ProfileRow {
+    ghost kind = { kinds.Profile };
+
+    fn kind(self) -> Kind {
+        Kind::Profile
+    }
+
+    fn size(self) -> usize {
+        width(self.kind())
+    }
 }
 
-pub(crate) fn put_override(out: &mut [u8], at: usize, row: OverrideRow) -> usize
-    requires { at + 17 ≤ length out.old }
-    ensures { Put out.old at (field 10 (override_body row)) out.new result }
-{
-    let position = put_tag(out, at, 10, 14);
-    let run = put_u16(out, position, row.position);
-    let from_wait = put_given_u32(out, run, row.run);
-    let to_wait = put_given_u32(out, from_wait, row.from_wait);
-    put_given_u32(out, to_wait, row.to_wait)
+impl Part for SpecialRow {
+    ghost bytes_of = { special_body };
+
+    fn put(self, out: &mut [u8]) -> usize {
+        self.first.then(self.last).then(self.runs).put(out)
+    }
 }
 
-// The numbers of a journey, behind its text.
-fn put_journey_numbers(out: &mut [u8], at: usize, row: JourneyRow<'_>) -> usize
-    requires { at + 17 ≤ length out.old }
-    ensures { Put out.old at (journey_numbers (journey_of row.entry)) out.new result }
-{
-    let pattern = put_u16(out, at, row.line);
-    let other = put_given_u16(out, pattern, row.pattern);
-    let profile = put_given_u16(out, other, row.other);
-    let departure = put_given_u16(out, profile, row.profile);
-    let shift = put_u32(out, departure, row.departure);
-    let first = put_byte(out, shift, row.day_shift);
-    let count = put_u16(out, first, row.first_override);
-    put_u16(out, count, row.overrides)
+impl Row for SpecialRow {
+    ghost kind = { kinds.Special };
+
+    fn kind(self) -> Kind {
+        Kind::Special
+    }
+
+    fn size(self) -> usize {
+        width(self.kind())
+    }
 }
 
-pub(crate) fn put_journey(out: &mut [u8], at: usize, row: JourneyRow<'_>) -> usize
-    requires short { length row.code.now ≤ 24 }
-    requires room { at + 23 + length row.code.now ≤ length out.old }
-    ensures { Put out.old at (field 11 (journey_body (journey_of row.entry))) out.new result }
-{
-    let code = put_tag(out, at, 11, 20 + row.code.len());
-    let numbers = put_text(out, code, row.code);
-    put_journey_numbers(out, numbers, row)
+impl Part for LinkRow {
+    ghost bytes_of = { link_body };
+
+    fn put(self, out: &mut [u8]) -> usize {
+        let times = self.run.then(self.from_wait).then(self.to_wait);
+        let activities = self.from_activity.then(self.to_activity);
+        self.from
+            .then(self.to)
+            .then(times)
+            .then(activities)
+            .put(out)
+    }
+}
+
+impl Row for LinkRow {
+    ghost kind = { kinds.Link };
+
+    fn kind(self) -> Kind {
+        Kind::Link
+    }
+
+    fn size(self) -> usize {
+        width(self.kind())
+    }
+}
+
+impl Part for SectionRow {
+    ghost bytes_of = { section_body };
+
+    fn put(self, out: &mut [u8]) -> usize {
+        self.first_link.then(self.links).put(out)
+    }
+}
+
+impl Row for SectionRow {
+    ghost kind = { kinds.Section };
+
+    fn kind(self) -> Kind {
+        Kind::Section
+    }
+
+    fn size(self) -> usize {
+        width(self.kind())
+    }
+}
+
+impl Part for UseRow {
+    ghost bytes_of = { use_body };
+
+    fn put(self, out: &mut [u8]) -> usize {
+        self.section.put(out)
+    }
+}
+
+impl Row for UseRow {
+    ghost kind = { kinds.Use };
+
+    fn kind(self) -> Kind {
+        Kind::Use
+    }
+
+    fn size(self) -> usize {
+        width(self.kind())
+    }
+}
+
+impl Part for PatternRow {
+    ghost bytes_of = { pattern_body };
+
+    fn put(self, out: &mut [u8]) -> usize {
+        self.direction.then(self.first_use).then(self.uses).put(out)
+    }
+}
+
+impl Row for PatternRow {
+    ghost kind = { kinds.Pattern };
+
+    fn kind(self) -> Kind {
+        Kind::Pattern
+    }
+
+    fn size(self) -> usize {
+        width(self.kind())
+    }
+}
+
+impl Part for OverrideRow {
+    ghost bytes_of = { override_body };
+
+    fn put(self, out: &mut [u8]) -> usize {
+        self.position
+            .then(self.run)
+            .then(self.from_wait)
+            .then(self.to_wait)
+            .put(out)
+    }
+}
+
+impl Row for OverrideRow {
+    ghost kind = { kinds.Override };
+
+    fn kind(self) -> Kind {
+        Kind::Override
+    }
+
+    fn size(self) -> usize {
+        width(self.kind())
+    }
+}
+
+impl Part for JourneyRow<'_> {
+    ghost bytes_of = { λ row. journey_body (journey_of row) };
+
+    ghost can_put = { λ row. length row.code.now ≤ 24 };
+
+    fn put(self, out: &mut [u8]) -> usize {
+        let numbers = self
+            .line
+            .then(self.pattern)
+            .then(self.other)
+            .then(self.profile)
+            .then(self.departure)
+            .then(self.day_shift)
+            .then(self.first_override)
+            .then(self.overrides);
+        self.code.then(numbers).put(out)
+    }
+}
+
+impl Row for JourneyRow<'_> {
+    ghost kind = { kinds.Journey };
+
+    fn kind(self) -> Kind {
+        Kind::Journey
+    }
+
+    fn size(self) -> usize {
+        3 + self.code.len() + width(self.kind())
+    }
 }

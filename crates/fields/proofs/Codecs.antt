@@ -6,17 +6,11 @@ use Rattle.std.proofs.lemmas.List.{drop_more, length-take-le, length-drop}
 use Rattle.std.proofs.ByRecursion.{All-get_or, All-take, All-drop}
 use Rattle.std.proofs.lemmas.Bool.{and_parts, and_from, le-leb, leb-true, eq-eqb, eqb-true, cond-true, cond_both}
 use Rattle.fields.specs.Fields.{be2, be4, whole, content, after, tagged, text_tag, text}
+use Rattle.fields.specs.Backs.{two_back}
 use Rattle.fields.specs.Forms.{bytes2, bytes4, field}
 
 abbrev pub Bytes : List ℕ → Type 0
 Bytes = All (λ b. b < 256)
-
--- a number that was written is read
-pub two_back : (n : ℕ) → be2 (bytes2 n) 0 ≡ n
-two_back n = omega arith
-
-pub four_back : (n : ℕ) → be4 (bytes4 n) 0 ≡ n
-four_back n = omega arith
 
 -- a number that was read is written, and behind it what stood behind it
 module _ (c : List ℕ) (bytes : Bytes c) where

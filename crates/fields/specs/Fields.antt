@@ -1,5 +1,6 @@
 -- Reading: the numbers in bytes, and the field that bytes begin with. All of it is total. Assumes nothing.
 --
+--   byte_at     the byte at a place
 --   be2, be4    the number in the two or four bytes from a place on, the greatest first
 --   whole       the bytes begin with a field: a tag, a length of two bytes, and as many bytes of content
 --   content     the content of that field; nothing where there is none
@@ -9,6 +10,9 @@
 --   text_tag    the tag of a text in a row
 --   text        the bytes begin with a text of at most so many bytes
 use Rattle.std.specs.Prelude.{ℕ, ◌+◌, ◌-◌, ◌*◌, Bool, cond, ◌&&◌, List, [], length, take, drop, ◌==◌, nat_le, slice_index}
+
+abbrev pub byte_at : List ℕ → ℕ → ℕ
+byte_at bs i = slice_index bs i
 
 abbrev pub be2 : List ℕ → ℕ → ℕ
 be2 bs i = slice_index bs i * 256 + slice_index bs (i + 1)

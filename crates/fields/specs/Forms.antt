@@ -1,10 +1,14 @@
 -- Writing: numbers and fields as bytes. Assumes nothing.
 --
+--   byte_of          a number in one byte
 --   bytes2, bytes4   a number in two or four bytes, the greatest first
 --   given2, given4   an optional number: where it is missing, bytes of ones
 --   field t c        the field of a tag and a content
 use Rattle.std.specs.Prelude.{ℕ, ◌/◌, ◌%◌, List, [], ◌∷◌, ◌++◌, length, Option}
 use Rattle.std.specs.Option.{unwrap_or}
+
+abbrev pub byte_of : ℕ → List ℕ
+byte_of n = n ∷ []
 
 abbrev pub bytes2 : ℕ → List ℕ
 bytes2 n = n / 256 ∷ n % 256 ∷ []

@@ -1,5 +1,6 @@
 -- No fault is found exactly in bytes that are in form. Assumes nothing.
 use Rattle.std.proofs.Common.{◌≡◌, ℕ, zero, suc, ◌+◌, ◌≤◌, Bool, true, false, ◌&&◌, eqb, leb, List, [], ◌∷◌, length, get_or, Some, None, Option, sym, refl, ap, ◌∙◌, ⊎_elim, arith}
+use Rattle.std.proofs.Math.Bool.{and_assoc}
 use Rattle.std.proofs.lemmas.Bool.{and_from, leb-true, le-leb, eqb-true, eq-eqb, cond-true, cond-false, cases_Bool}
 use Rattle.refusals.specs.declared.Kind.{Kind}
 use Rattle.refusals.specs.declared.ByteFault.{ByteFault}
@@ -35,14 +36,10 @@ clean_else (Some f) y = refl
 clean_both : (x y : Option ByteFault) (a b : Bool) → clean x ≡ a → clean y ≡ b → clean (or_else x y) ≡ (a && b)
 clean_both x y a b p q = clean_else x y ∙ ap (λ t. t && clean y) p ∙ ap (λ t. a && t) q
 
-and_and : (x y z : Bool) → (x && (y && z)) ≡ ((x && y) && z)
-and_and true y z = refl
-and_and false y z = refl
-
 pub clean_text : (m p : ℕ) (bs : List ℕ) → clean (text_fault m p bs) ≡ text m bs
 clean_text m p bs =
     clean_both _ _ _ _ (clean_unless (whole bs) (Overruns p)) (clean_both _ _ _ _ (clean_unless (eqb (get_or bs 0 0) text_tag) (Undue p)) (clean_unless (leb (be2 bs 1) m) (Misfits p)))
-    ∙ and_and (whole bs) (eqb (get_or bs 0 0) text_tag) (leb (be2 bs 1) m)
+    ∙ sym (and_assoc (whole bs) (eqb (get_or bs 0 0) text_tag) (leb (be2 bs 1) m))
 
 pub clean_texts : (ms : List ℕ) (p : ℕ) (c : List ℕ) → clean (texts_fault ms p c) ≡ texts ms c
 clean_texts [] p c = refl
@@ -115,7 +112,7 @@ pub deposit_clean : (p : ℕ) (bs : List ℕ) → clean (deposit_fault p bs) ≡
 deposit_clean p bs =
     let left = eqb (length (rows_left (content bs))) 0 in
     clean_both _ _ _ _ (clean_unless (whole bs) (Overruns p)) (clean_both _ _ _ left (clean_unless (eqb (get_or bs 0 0) deposit_tag) (Undue p)) (rows_clean kinds all_held (length (content bs)) 0 (p + 3) (content bs) (omega arith)))
-    ∙ and_and (whole bs) (eqb (get_or bs 0 0) deposit_tag) left
+    ∙ sym (and_assoc (whole bs) (eqb (get_or bs 0 0) deposit_tag) left)
 
 pub form_clean : (bs : List ℕ) → clean (form_fault bs) ≡ in_form bs
 form_clean bs = clean_both _ _ _ _ (deposit_clean 0 bs) (clean_unless (eqb (length (after bs)) 0) (Undue (size bs)))

@@ -1,4 +1,3 @@
 pub mod Agrees
 pub mod Exact
 pub mod Onward
-pub mod Passing

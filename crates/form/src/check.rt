@@ -1,45 +1,65 @@
 // Looking through bytes that should be one deposit.
-ghost use Rattle.std.specs.Prelude.{◌≡◌, ◌+◌, ◌^◌, ◌<◌, length};
+ghost use Rattle.std.specs.Prelude.{◌≡◌, ◌+◌, ◌^◌, ◌<◌, length, IfOk};
+ghost use Rattle.std.specs.Result.{result_err};
+ghost use Rattle.fields.specs.Firsts.{IsFirst};
 ghost use Rattle.form.specs.Look as look;
 ghost use Rattle.form.specs.Words as words;
 
-use crate::looks::{field_fault, unless};
-use fields::reads::{after, content, is_whole, size};
+use crate::looks::due_row;
+use crate::places::Placed;
+use fields::reads::Field;
 use layout::table::DEPOSIT;
 use refusals::ByteFault;
 
-fn rows_fault(start: usize, bytes: &[u8]) -> Option<ByteFault>
-    requires { start + length bytes.now < 2 ^ 64 }
-    ensures { result ≡ look.rows_fault (length bytes.now) 0 start bytes.now }
+// Rows to the end of the bytes.
+fn check_rows(rows: Placed<'_>) -> Result<(), ByteFault>
+    ensures { result_err result ≡ look.rows_fault (length rows.entry.bytes.now) 0 rows.entry.place rows.entry.bytes.now }
 {
     let mut least = 0;
-    let mut at = start;
-    let mut rest = bytes;
-    while rest.len() > 0 {
-        let found = field_fault(least, at, rest);
-        if found.is_some() {
-            return found;
-        }
-        least = rest[0];
-        at += size(rest);
-        rest = after(rest);
+    let mut rest = rows;
+    // each row says where the next begins, so nothing is counted and there is no list to go over
+    while !rest.bytes.is_empty() {
+        let row = due_row(least, rest)?;
+        least = row.tag;
+        rest = rest.behind(row);
     }
-    None
+    Ok(())
 }
 
+// One deposit, whatever stands behind it.
+fn due_deposit<'a>(at: Placed<'a>) -> Result<Field<'a>, ByteFault>
+    ensures fault { result_err result ≡ look.deposit_fault at.entry.place at.entry.bytes.now }
+    ensures deposit { IfOk result (IsFirst at.entry.bytes.now) }
+{
+    let deposit = at.first()?;
+    if deposit.tag != DEPOSIT {
+        return Err(ByteFault::Undue { place: at.place });
+    }
+    check_rows(at.inside(deposit))?;
+    Ok(deposit)
+}
+
+// One deposit, and nothing behind it.
+fn check_form(bytes: &[u8]) -> Result<(), ByteFault>
+    ensures { result_err result ≡ look.form_fault bytes.now }
+{
+    let deposit = due_deposit(Placed::new(0, bytes))?;
+    if !deposit.after.is_empty() {
+        return Err(ByteFault::Undue {
+            place: deposit.size(),
+        });
+    }
+    Ok(())
+}
+
+// The public answers stay what is looked for: a fault, or nothing.
 /// The first fault of one deposit that is due at a place, whatever stands behind it, or nothing.
 pub fn deposit_fault(place: usize, bytes: &[u8]) -> Option<ByteFault>
     requires { place + length bytes.now < 2 ^ 64 }
     ensures value { result ≡ look.deposit_fault place bytes.now }
     ensures told { words.ToldAt place bytes.now result }
 {
-    if !is_whole(bytes) {
-        return Some(ByteFault::Overruns { place });
-    }
-    if bytes[0] != DEPOSIT {
-        return Some(ByteFault::Undue { place });
-    }
-    rows_fault(place + 3, content(bytes))
+    due_deposit(Placed::new(place, bytes)).err()
 }
 
 /// The first fault of bytes that should be one deposit in form, or nothing.
@@ -47,11 +67,5 @@ pub fn form_fault(bytes: &[u8]) -> Option<ByteFault>
     ensures value { result ≡ look.form_fault bytes.now }
     ensures told { words.Told bytes.now result }
 {
-    match deposit_fault(0, bytes) {
-        Some(fault) => Some(fault),
-        None => unless(
-            after(bytes).len() == 0,
-            ByteFault::Undue { place: size(bytes) },
-        ),
-    }
+    check_form(bytes).err()
 }

@@ -1,76 +1,66 @@
-// The first fault of one field.
-ghost use Rattle.std.specs.Prelude.{◌≡◌, ◌+◌, ◌^◌, ◌<◌, length, Some, None, Ok, Err};
+// Texts and rows that are due: each function passes one, or gives its first fault.
+ghost use Rattle.std.specs.Prelude.{◌≡◌, ◌+◌, IfOk};
+ghost use Rattle.std.specs.Result.{result_err};
+ghost use Rattle.fields.specs.Fields.{after, size};
+ghost use Rattle.fields.specs.Firsts.{IsFirst};
 ghost use Rattle.layout.specs.Layout.{after_texts};
 ghost use Rattle.form.specs.Look as look;
 
-use fields::reads::{after, be2, content, is_whole, size};
+use crate::places::Placed;
+use fields::reads::Field;
 use layout::table::{TEXT, kind_of, limits, numbers_fit};
 use refusals::{ByteFault, Kind};
 
-// Nothing where the test holds, else that fault.
-pub(crate) fn unless(good: bool, fault: ByteFault) -> Option<ByteFault>
-    ensures { result ≡ look.unless good fault }
+// A text of at most so many bytes, and what stands behind it.
+fn due_text<'a>(most: u16, at: Placed<'a>) -> Result<Placed<'a>, ByteFault>
+    ensures fault { result_err result ≡ look.text_fault most at.entry.place at.entry.bytes.now }
+    ensures place { IfOk result (λ rest. rest.place ≡ at.entry.place + size at.entry.bytes.now) }
+    ensures rest { IfOk result (λ rest. rest.bytes.now ≡ after at.entry.bytes.now) }
 {
-    if good { None } else { Some(fault) }
+    let text = at.first()?;
+    if text.tag != TEXT {
+        return Err(ByteFault::Undue { place: at.place });
+    }
+    if text.content.len() > usize::from(most) {
+        return Err(ByteFault::Misfits { place: at.place });
+    }
+    Ok(at.behind(text))
 }
 
-// A text of at most so many bytes is due.
-fn text_fault(most: u16, place: usize, bytes: &[u8]) -> Option<ByteFault>
-    ensures { result ≡ look.text_fault most place bytes.now }
+// The texts of a row, and what stands behind them.
+fn pass_texts<'a>(limits: &[u16], content: Placed<'a>) -> Result<Placed<'a>, ByteFault>
+    ensures fault { result_err result ≡ look.texts_fault limits.now content.entry.place content.entry.bytes.now }
+    ensures rest { IfOk result (λ rest. rest.bytes.now ≡ after_texts limits.now content.entry.bytes.now) }
 {
-    if !is_whole(bytes) {
-        return Some(ByteFault::Overruns { place });
-    }
-    if bytes[0] != TEXT {
-        return Some(ByteFault::Undue { place });
-    }
-    unless(be2(bytes, 1) <= most, ByteFault::Misfits { place })
-}
-
-// Passes the texts of a row, or gives the first fault among them.
-fn pass_texts<'a>(most: &[u16], start: usize, content: &'a [u8]) -> Result<&'a [u8], ByteFault>
-    requires { start + length content.now < 2 ^ 64 }
-    ensures { elim result [ Ok rest ↦ (look.texts_fault most.now start content.now ≡ None) × (rest.now ≡ after_texts most.now content.now) | Err x ↦ look.texts_fault most.now start content.now ≡ Some x ] }
-{
-    let mut place = start;
     let mut rest = content;
-    for i in 0..most.len() {
-        match text_fault(most[i], place, rest) {
-            Some(fault) => return Err(fault),
-            None => {}
-        }
-        place += size(rest);
-        rest = after(rest);
+    for most in limits {
+        rest = due_text(*most, rest)?;
     }
     Ok(rest)
 }
 
-fn row_fault(kind: Kind, place: usize, content: &[u8]) -> Option<ByteFault>
-    requires { place + 3 + length content.now < 2 ^ 64 }
-    ensures { result ≡ look.row_fault kind place content.now }
+// The content of a row of a kind that stands at a place.
+fn check_content(kind: Kind, place: usize, content: Placed<'_>) -> Result<(), ByteFault>
+    requires { content.place ≡ place + 3 }
+    ensures { result_err result ≡ look.row_fault kind place content.entry.bytes.now }
 {
-    match pass_texts(limits(kind), place + 3, content) {
-        Err(fault) => Some(fault),
-        Ok(rest) => unless(numbers_fit(kind, rest), ByteFault::Misfits { place }),
+    let numbers = pass_texts(limits(kind), content)?;
+    if !numbers_fit(kind, numbers.bytes) {
+        return Err(ByteFault::Misfits { place });
     }
+    Ok(())
 }
 
-// A row is due, behind one of tag `least`.
-pub(crate) fn field_fault(least: u8, place: usize, bytes: &[u8]) -> Option<ByteFault>
-    requires { place + length bytes.now < 2 ^ 64 }
-    ensures { result ≡ look.field_fault least place bytes.now }
+// A row, behind one of tag `least`.
+pub(crate) fn due_row<'a>(least: u8, at: Placed<'a>) -> Result<Field<'a>, ByteFault>
+    ensures fault { result_err result ≡ look.field_fault least at.entry.place at.entry.bytes.now }
+    ensures row { IfOk result (IsFirst at.entry.bytes.now) }
 {
-    if !is_whole(bytes) {
-        return Some(ByteFault::Overruns { place });
+    let row = at.first()?;
+    let kind = kind_of(row.tag).ok_or(ByteFault::Undue { place: at.place })?;
+    if row.tag < least {
+        return Err(ByteFault::Undue { place: at.place });
     }
-    match kind_of(bytes[0]) {
-        None => Some(ByteFault::Undue { place }),
-        Some(kind) => {
-            if bytes[0] < least {
-                Some(ByteFault::Undue { place })
-            } else {
-                row_fault(kind, place, content(bytes))
-            }
-        }
-    }
+    check_content(kind, at.place, at.inside(row))?;
+    Ok(row)
 }

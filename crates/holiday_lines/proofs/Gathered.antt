@@ -1,19 +1,17 @@
 -- The text of days in a row, one day after another. Assumes nothing.
-use Rattle.std.proofs.Common.{◌≡◌, ℕ, zero, suc, ◌+◌, ◌-◌, ◌<◌, ◌≤◌, Bool, true, false, cond, ltb, List, [], ◌∷◌, ◌++◌, length, filter, sym, refl, ap, ◌∙◌, append_assoc, add-zero, arith, length-append}
+use Rattle.std.proofs.Common.{◌≡◌, ℕ, zero, suc, ◌+◌, ◌-◌, ◌<◌, ◌≤◌, Bool, true, false, cond, List, [], ◌∷◌, ◌++◌, length, filter, Some, sym, refl, ap, ◌∙◌, add-zero, arith, length-append}
 use Rattle.std.specs.List.{range_with_len, flat_map}
+use Rattle.std.proofs.lemmas.Grind.{flat_map-append}
 use Rattle.std.proofs.lemmas.List.FromFn.{map-range_with_len_more}
 use Rattle.std.proofs.lemmas.List.Elements.{filter-append}
 use Rattle.std.proofs.lemmas.List.{map-id, append-nil}
+use Rattle.calendar.specs.Dates.{day_number}
 use Rattle.writing.specs.Puts.{Put}
-use Rattle.writing.proofs.Putting.{put_as, then, put_none}
-use Rattle.holiday_lines.specs.Texts.{is_holiday, line_of, text_on, holidays_from, lines_of}
+use Rattle.writing.proofs.Putting.{put_as, then}
+use Rattle.holiday_lines.specs.Texts.{is_holiday, line_of, text_on, holidays_from, lines_of, text_of}
 
 counting_more : (a n : ℕ) → range_with_len a (n + 1) ≡ range_with_len a n ++ ((a + n) ∷ [])
 counting_more a n = sym (map-id (range_with_len a (n + 1))) ∙ map-range_with_len_more (λ k. k) a n (a + n) refl ∙ ap (λ l. l ++ ((a + n) ∷ [])) (map-id (range_with_len a n))
-
-joined_append : {X A : Type 0} (f : X → List A) (xs ys : List X) → flat_map f (xs ++ ys) ≡ flat_map f xs ++ flat_map f ys
-joined_append f [] ys = refl
-joined_append f (x ∷ xs) ys = ap (λ l. f x ++ l) (joined_append f xs ys) ∙ sym (append_assoc (f x) (flat_map f xs) (flat_map f ys))
 
 kept_one : {A : Type 0} (f : ℕ → List A) (b : Bool) (x : ℕ) → flat_map f (cond b (x ∷ []) []) ≡ cond b (f x) []
 kept_one f true x = append-nil (f x)
@@ -29,7 +27,7 @@ module _ (kind : ℕ → ℕ) (first : ℕ) where
       let f : ℕ → List ℕ = λ day. line_of day (kind day) in
       ap (λ l. flat_map f (filter (is_holiday kind) l)) (counting_more first n)
       ∙ ap (flat_map f) (filter-append (is_holiday kind) (range_with_len first n) ((first + n) ∷ []))
-      ∙ joined_append f (filter (is_holiday kind) (range_with_len first n)) (filter (is_holiday kind) ((first + n) ∷ []))
+      ∙ flat_map-append f (filter (is_holiday kind) (range_with_len first n)) (filter (is_holiday kind) ((first + n) ∷ []))
       ∙ ap (λ l. so_far n ++ l) (kept_one f (is_holiday kind (first + n)) (first + n))
 
   -- at a day from the first on, in place of a count
@@ -57,6 +55,6 @@ module _ (kind : ℕ → ℕ) (first : ℕ) where
   pub put_next : (day : ℕ) {old mid new : List ℕ} {j end : ℕ} → first ≤ day → Put old 0 (so_far (day - first)) mid j → Put mid j (text_on kind day) new end → Put old 0 (so_far (day + 1 - first)) new end
   put_next day h p q = put_as (sym (so_far_next day h)) (then p q)
 
--- a day that is no holiday adds nothing
-pub put_nothing : (kind : ℕ → ℕ) (day : ℕ) (old : List ℕ) (i : ℕ) → 0 ≡ kind day → i ≤ length old → Put old i (text_on kind day) old i
-put_nothing kind day old i e h = put_as (ap (λ k. cond (ltb 0 k) (line_of day k) []) e) (put_none old i h)
+-- past its last day the text is that of the whole year
+pub so_far_all : (kind : ℕ → ℕ) (y day : ℕ) → day ≡ day_number y 12 31 + 1 → so_far kind (day_number y 1 1) (day - day_number y 1 1) ≡ text_of kind (Some y)
+so_far_all kind y day e = ap (λ d. so_far kind (day_number y 1 1) (d - day_number y 1 1)) e

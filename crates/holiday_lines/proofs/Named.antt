@@ -1,21 +1,18 @@
 -- Which lines name a year: the four digits of a year of the calendar, and no other line. Assumes nothing.
-use Rattle.std.proofs.Common.{◌≡◌, ℕ, ◌+◌, ◌-◌, ◌*◌, ◌/◌, ◌%◌, ◌<◌, ◌≤◌, Bool, true, false, cond, ◌&&◌, eqb, List, [], ◌∷◌, length, get_or, Some, None, Option, sym, refl, ap, ◌∙◌, arith}
+use Rattle.std.proofs.Common.{◌≡◌, ◌↔◌, ℕ, ◌+◌, ◌-◌, ◌*◌, ◌/◌, ◌%◌, ◌<◌, ◌≤◌, Bool, true, false, cond, ◌&&◌, eqb, List, [], ◌∷◌, length, get_or, Some, None, Option, sym, refl, ap, ◌∙◌, arith}
 use Rattle.std.proofs.lemmas.Bool.{eqb-true}
+use Rattle.std.proofs.lemmas.Option.{cond_some, none-some}
 use Rattle.std.proofs.lemmas.Bool.Decides.{nat_tests}
 use Rattle.writing.specs.Puts.{padded}
 use Rattle.holiday_lines.specs.Reads.{digit, number_of, in_calendar, year_of, year_read}
-use Rattle.calendar.specs.Words.{Exactly}
 use Rattle.holiday_lines.specs.Words.{Names}
 
 abbrev test : ℕ → ℕ → ℕ → ℕ → Bool
 test a b c d = digit a && digit b && (digit c && digit d) && in_calendar (number_of a b c d)
 
-cond_some : (b : Bool) (o : Option ℕ) (y : ℕ) → cond b o None ≡ Some y → (b ≡ true) × (o ≡ Some y)
-cond_some true o y e = (refl, e)
-cond_some false o y e = let z : ◌≡◌ {A = ℕ} 0 1 = cc in absurd (omega arith)
-
-some_same : (x y : ℕ) → Some x ≡ Some y → x ≡ y
-some_same x y e = cc
+chosen : (b : Bool) (o : Option ℕ) (y : ℕ) → cond b o None ≡ Some y → (b ≡ true) × (o ≡ Some y)
+chosen true o y e = (refl, e)
+chosen false o y e = absurd (none-some y e)
 
 four : (line : List ℕ) → length line ≡ 4 → line ≡ get_or line 0 0 ∷ get_or line 1 0 ∷ get_or line 2 0 ∷ get_or line 3 0 ∷ []
 four [] e = absurd (omega arith)
@@ -60,11 +57,10 @@ read_named line y e =
     let b = get_or line 1 0 in
     let c = get_or line 2 0 in
     let d = get_or line 3 0 in
-    let long = cond_some (eqb (length line) 4) (year_of a b c d) y e in
-    let told = cond_some (test a b c d) (Some (number_of a b c d)) y long.1 in
+    let long = chosen (eqb (length line) 4) (year_of a b c d) y e in
+    let told = cond_some (test a b c d) (number_of a b c d) y long.1 in
     let t = tested a b c d told.0 in
-    let n : number_of a b c d ≡ y = some_same (number_of a b c d) y told.1 in
-    (omega (arith, t.year.0, n), omega (arith, t.year.1, n), four line (eqb-true (length line) 4 long.0) ∙ sym (digits_back a b c d t) ∙ ap (padded 4) n)
+    (omega (arith, t.year.0, told.1), omega (arith, t.year.1, told.1), four line (eqb-true (length line) 4 long.0) ∙ sym (digits_back a b c d t) ∙ ap (padded 4) told.1)
 
 named_read : (line : List ℕ) (y : ℕ) → Names line y → year_read line ≡ Some y
 named_read line y h =
@@ -74,5 +70,5 @@ named_read line y h =
     passes : (a b c d y : ℕ) → number_of a b c d ≡ y → 2000 ≤ y → y < 2200 → (48 ≤ a) × (a ≤ 57) → (48 ≤ b) × (b ≤ 57) → (48 ≤ c) × (c ≤ 57) → (48 ≤ d) × (d ≤ 57) → year_of a b c d ≡ Some y
     passes a b c d y n from to p q r s = grind (arith, nat_tests)
 
-pub names : (line : List ℕ) (y : ℕ) → Exactly (year_read line ≡ Some y) (Names line y)
+pub names : (line : List ℕ) (y : ℕ) → (year_read line ≡ Some y) ↔ Names line y
 names line y = (read_named line y, named_read line y)

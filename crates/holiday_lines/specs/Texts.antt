@@ -1,7 +1,6 @@
 -- The lines of a year's holidays. Assumes nothing.
 -- In all of it `kind` is a day book's table: the number of the kind of each day, 0 for none.
 --
---   date_text       a year, a month and a day of the month as yyyy-mm-dd
 --   date_word       the date of a day, so written
 --   weekdays, kinds the weekdays from number 0 on, and the kinds from number 1 on
 --   weekday_word    the English name of a day's weekday
@@ -24,12 +23,9 @@ use Rattle.calendar.specs.declared.books.HolidayKind.TheVariants.{NewYearsDay, G
 use Rattle.calendar.specs.Dates.{day_number, date_of}
 use Rattle.calendar.specs.Weeks.{weekday_name, weekday_of}
 use Rattle.calendar.specs.Kinds.{kind_name}
-use Rattle.writing.specs.Puts.{padded}
+use Rattle.pieces.specs.Texts.{date_text}
 use Rattle.lines.specs.Texts.{refused_text}
 use Rattle.holiday_lines.specs.Reads.{year_read}
-
-abbrev pub date_text : ℕ × ℕ × ℕ → List ℕ
-date_text t = padded 4 t.0 ++ (45 ∷ (padded 2 t.1 ++ (45 ∷ padded 2 t.2)))
 
 -- shut, since the date of a day is counted through the years
 unfoldable pub date_word : ℕ → List ℕ

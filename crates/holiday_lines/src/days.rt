@@ -1,67 +1,56 @@
-// The text of days in a row: how long it is, and writing it.
-ghost use Rattle.std.specs.Prelude.{◌≡◌, ◌+◌, ◌-◌, ◌≤◌, length};
-ghost use Rattle.calendar.specs.Dates.{Valid, day_number};
+// The text of a year's days, one day behind another.
+ghost use Rattle.std.specs.Prelude.{◌+◌, ◌≤◌, length, Some};
+ghost use Rattle.calendar.specs.Dates.{last_day};
 ghost use Rattle.writing.specs.Puts.{Put};
-ghost use Rattle.holiday_lines.specs.Texts.{text_on, holidays_from, lines_of};
+ghost use Rattle.pieces.specs.Texts.{RoomBehind};
+ghost use Rattle.holiday_lines.specs.Texts.{text_on, text_of};
 
-use crate::words::{line_length, put_line};
+use crate::line::line_of;
+use crate::year::Year;
 use calendar::books::DayBook;
-use calendar::dates::join;
+use pieces::write::{put_pieces, room_behind};
 
-// The day of a date that is one.
-pub(crate) fn day_of(year: u16, month: u8, of_month: u8) -> u32
-    requires { Valid year month of_month }
-    ensures value { result ≡ day_number year month of_month }
-    ensures few { result ≤ 73048 }
-{
-    match join(year, month, of_month) {
-        Ok(day) => day,
-        // no date of the calendar comes here
-        Err(_) => 0,
-    }
-}
-
-// How long the text of one day is: nothing where the book gives it no kind.
-fn day_length<B: DayBook>(book: &B, day: u32) -> usize
-    ensures value { result ≡ length (text_on (B.kind_of book.now) day) }
-    ensures few { result ≤ 80 }
+// What is left of so many bytes behind the text of a day; nothing where it does not fit.
+fn room_behind_day<B: DayBook>(book: &B, day: u32, room: usize) -> Option<usize>
+    requires { day ≤ last_day }
+    ensures { RoomBehind (text_on (B.kind_of book.now) day) room result }
 {
     match book.kind(day) {
-        Some(kind) => line_length(day, kind),
-        None => 0,
+        Some(kind) => room_behind(&line_of(day, kind), room),
+        None => Some(room),
     }
 }
 
-// How long the text of the days from `first` on is, before `end`.
-pub(crate) fn days_length<B: DayBook>(book: &B, first: u32, end: u32) -> usize
-    requires { (first ≤ end) × (end ≤ 73049) }
-    ensures { result ≡ length (lines_of (B.kind_of book.now) (holidays_from (B.kind_of book.now) first (end - first))) }
+/// What is left of so many bytes behind the lines of a year's holidays; nothing where they do not fit.
+pub(crate) fn room_behind_year<B: DayBook>(book: &B, year: Year, room: usize) -> Option<usize>
+    ensures { RoomBehind (text_of (B.kind_of book.now) (Some year.number)) room result }
 {
-    let mut total = 0;
-    for day in first..end {
-        total += day_length(book, day);
+    let mut left = room;
+    for day in year.first_day()..=year.last_day() {
+        left = room_behind_day(book, day, left)?;
     }
-    total
+    Some(left)
 }
 
-// Writes the text of one day.
+// Writes the text of a day.
 fn put_day<B: DayBook>(book: &B, day: u32, out: &mut [u8], at: usize) -> usize
-    requires { (day ≤ 73048) × (at + length (text_on (B.kind_of book.now) day) ≤ length out.old) }
+    requires within { day ≤ last_day }
+    requires room { at + length (text_on (B.kind_of book.now) day) ≤ length out.old }
     ensures { Put out.old at (text_on (B.kind_of book.now) day) out.new result }
 {
     match book.kind(day) {
-        Some(kind) => put_line(out, at, day, kind),
+        Some(kind) => put_pieces(out, at, &line_of(day, kind)),
         None => at,
     }
 }
 
-// Writes the text of the days from `first` on, before `end`, at the front.
-pub(crate) fn put_days<B: DayBook>(book: &B, first: u32, end: u32, out: &mut [u8]) -> usize
-    requires { (first ≤ end) × ((end ≤ 73049) × (length (lines_of (B.kind_of book.now) (holidays_from (B.kind_of book.now) first (end - first))) ≤ length out.old)) }
-    ensures { Put out.old 0 (lines_of (B.kind_of book.now) (holidays_from (B.kind_of book.now) first (end - first))) out.new result }
+/// Writes the lines of a year's holidays at the front.
+pub(crate) fn put_year<B: DayBook>(book: &B, year: Year, out: &mut [u8]) -> usize
+    requires { length (text_of (B.kind_of book.now) (Some year.number)) ≤ length out.old }
+    ensures { Put out.old 0 (text_of (B.kind_of book.now) (Some year.number)) out.new result }
 {
     let mut at = 0;
-    for day in first..end {
+    for day in year.first_day()..=year.last_day() {
         at = put_day(book, day, out, at);
     }
     at

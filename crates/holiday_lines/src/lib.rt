@@ -1,32 +1,27 @@
 // The holidays of a year as text, one line for each.
 #![tactic(auto)]
 
-ghost use Rattle.std.specs.Prelude.{◌<◌, ◌≤◌};
-ghost use Rattle.lines.specs.Texts.{Written};
-ghost use Rattle.holiday_lines.specs.Texts.{holidays_of, lines_of, year_text};
+ghost use Rattle.std.specs.Prelude.{Some};
+ghost use Rattle.pieces.specs.Texts.{Written};
+ghost use Rattle.holiday_lines.specs.Texts.{text_of, year_text};
 ghost use Rattle.holiday_lines.specs.Words.{Told};
 
 mod days;
-mod reads;
-mod words;
+mod line;
+mod year;
 
-use crate::days::{day_of, days_length, put_days};
-use crate::reads::year_named;
+use crate::days::{put_year, room_behind_year};
+use crate::year::Year;
 use calendar::books::DayBook;
 use lines::refused_line;
 use refusals::Refusal;
 
 // Writes the lines of a year's holidays at the front.
-fn year_lines<B: DayBook>(book: &B, year: u16, out: &mut [u8]) -> Result<usize, Refusal>
-    requires { (2000 ≤ year) × (year < 2200) }
-    ensures { Written (lines_of (B.kind_of book.now) (holidays_of (B.kind_of book.now) year)) out.old result out.new }
+fn year_lines<B: DayBook>(book: &B, year: Year, out: &mut [u8]) -> Result<usize, Refusal>
+    ensures { Written (text_of (B.kind_of book.now) (Some year.number)) out.old result out.new }
 {
-    let first = day_of(year, 1, 1);
-    let end = day_of(year, 12, 31) + 1;
-    if out.len() < days_length(book, first, end) {
-        return Err(Refusal::TooShort);
-    }
-    Ok(put_days(book, first, end, out))
+    room_behind_year(book, year, out.len()).ok_or(Refusal::TooShort)?;
+    Ok(put_year(book, year, out))
 }
 
 /// Writes the text that answers one input line, given without its newline, at the front of `out` and tells its length.
@@ -36,7 +31,7 @@ pub fn year_text<B: DayBook>(book: &B, line: &[u8], out: &mut [u8]) -> Result<us
     ensures answer { Written (year_text (B.kind_of book.now) line.now) out.old result out.new }
     ensures words { Told (B.kind_of book.now) }
 {
-    match year_named(line) {
+    match Year::named(line) {
         Some(year) => year_lines(book, year, out),
         None => refused_line(Refusal::OutOfRange, out),
     }

@@ -14,7 +14,8 @@ use Rattle.deposit.specs.declared.rows.OverrideRow.{OverrideRow}
 use Rattle.deposit.specs.Deposit.{Head, Line, Stop, Journey}
 use Rattle.fields.specs.Fields.{be2, be4, content, after, text_tag}
 use Rattle.fields.specs.Forms.{bytes2, bytes4, given2, given4}
-use Rattle.fields.proofs.Codecs.{two_back, four_back, field_content, field_after, field_alone, field_text}
+use Rattle.fields.specs.Backs.{two_back, four_back}
+use Rattle.fields.proofs.Codecs.{field_content, field_after, field_alone, field_text}
 use Rattle.layout.specs.Layout.{missing2, missing4, paired, numbers}
 use Rattle.layout.specs.Reading as read
 use Rattle.layout.specs.Reading.{head_from, journey_from, read_head, read_line, read_stop, read_profile, read_special, read_link, read_section, read_use, read_pattern, read_override, read_journey}

@@ -1,6 +1,5 @@
 -- Passing the texts of a row, by a list of limits. Assumes nothing.
-use Rattle.std.proofs.Common.{◌≡◌, ℕ, ◌+◌, ◌<◌, ◌≤◌, Bool, true, false, ◌&&◌, List, ◌∷◌, length, get_or, drop, ap, ◌∙◌, add-one, drop-cons}
-use Rattle.std.proofs.lemmas.List.{drop_all}
+use Rattle.std.proofs.Common.{◌≡◌, ℕ, ◌+◌, ◌<◌, Bool, true, ◌&&◌, List, ◌∷◌, length, get_or, drop, ap, ◌∙◌, add-one, drop-cons}
 use Rattle.refusals.specs.declared.Kind.{Kind}
 use Rattle.fields.specs.Fields.{after, text}
 use Rattle.layout.specs.Layout.{numbers, texts, after_texts}
@@ -17,9 +16,3 @@ module _ (k : Kind) (ms : List ℕ) (i : ℕ) (h : i < length ms) (c : List ℕ)
 
   pub text_more : text (get_or ms i 0) c ≡ true → form_from k ms i c ≡ form_from k ms (i + 1) (after c)
   text_more e = opened ∙ ap (λ b. (b && texts (drop (i + 1) ms) (after c)) && numbers k (after_texts (drop (i + 1) ms) (after c))) e
-
-  pub text_none : text (get_or ms i 0) c ≡ false → form_from k ms i c ≡ false
-  text_none e = opened ∙ ap (λ b. (b && texts (drop (i + 1) ms) (after c)) && numbers k (after_texts (drop (i + 1) ms) (after c))) e
-
-pub texts_all : (k : Kind) (ms : List ℕ) (i : ℕ) (c : List ℕ) → length ms ≤ i → form_from k ms i c ≡ numbers k c
-texts_all k ms i c h = ap (λ l. texts l c && numbers k (after_texts l c)) (drop_all i ms h)

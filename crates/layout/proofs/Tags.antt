@@ -1,9 +1,11 @@
 -- Kinds and the tags of their rows. Assumes nothing.
-use Rattle.std.proofs.Common.{◌≡◌, ℕ, true, cond, eqb, List, [], ◌∷◌, get_or, Some, None, Option, sym, refl, ap, ◌∙◌, ⊎_elim, arith}
+use Rattle.std.proofs.Common.{◌≡◌, ℕ, true, cond, eqb, List, [], ◌∷◌, get_or, Some, None, Option, Ok, Err, Result, sym, refl, ap, ◌∙◌, ⊎_elim, arith}
 use Rattle.std.proofs.lemmas.Bool.{and_parts, eqb-true, cond-true, cond-false, cases_Bool}
 use Rattle.refusals.specs.declared.Kind.{Kind}
 use Rattle.refusals.specs.declared.Kind.TheVariants.{Head, Line, Stop, Profile, Special, Link, Section, Use, Pattern, Override, Journey}
-use Rattle.refusals.specs.Numbers.{kinds, kind_number}
+use Rattle.std.specs.Result.{result_ok}
+use Rattle.refusals.specs.declared.Refusal.{Refusal}
+use Rattle.refusals.specs.Numbers.{kinds, kind_number, KindTried}
 use Rattle.layout.specs.Layout.{kind_of}
 use Rattle.layout.specs.Reading.{is_row}
 
@@ -45,6 +47,15 @@ among_number (j ∷ js) t k h =
 
 pub kind_of_tag : (t : ℕ) (k : Kind) → kind_of t ≡ Some k → t ≡ kind_number k
 kind_of_tag t k h = among_number kinds t k h
+
+-- what a number is tried as is the kind that it is the tag of
+pub tried_kind : (t : ℕ) (r : Result Kind Refusal) → KindTried t r → result_ok r ≡ kind_of t
+tried_kind t (Ok k) h = sym (ap kind_of h ∙ kind_of_number k)
+tried_kind t (Err e) h = by (kind_of t) refl
+  where
+    by : (o : Option Kind) → kind_of t ≡ o → None ≡ kind_of t
+    by None f = sym f
+    by (Some k) f = absurd (h.0 k (kind_of_tag t k f))
 
 pub row_tag : (k : Kind) (bs : List ℕ) → is_row k bs ≡ true → get_or bs 0 0 ≡ kind_number k
 row_tag k bs r = eqb-true _ _ (and_parts _ _ (and_parts _ _ r).0).1

@@ -1,38 +1,43 @@
 // Whether bytes begin with a row of a kind, in form.
-ghost use Rattle.std.specs.Prelude.{◌≡◌};
+ghost use Rattle.std.specs.Prelude.{◌≡◌, true, false, is_some, IfSome, MatchOption};
 ghost use Rattle.fields.specs.Fields as field;
+ghost use Rattle.fields.specs.Firsts.{IsFirst};
 ghost use Rattle.layout.specs.Layout as layout;
 ghost use Rattle.layout.specs.Reading as reading;
 
 use crate::table::{TEXT, limits, numbers_fit};
-use fields::reads::{after, be2, content, is_tagged};
+use fields::reads::Field;
 use refusals::Kind;
 
-// Whether the bytes begin with a text of at most so many bytes.
-fn is_text(most: u16, bytes: &[u8]) -> bool
-    ensures { result ≡ field.text most bytes.now }
+// The text of at most so many bytes that the bytes begin with.
+fn first_text(most: u16, bytes: &[u8]) -> Option<Field<'_>>
+    ensures text { is_some result ≡ field.text most bytes.now }
+    ensures parts { IfSome result (IsFirst bytes.now) }
 {
-    is_tagged(TEXT, bytes) && be2(bytes, 1) <= most
+    Field::tagged(TEXT, bytes).filter(|text| text.content.len() <= usize::from(most))
+}
+
+// What stands behind texts of at most so many bytes each, one behind the other.
+fn pass_texts<'a>(limits: &[u16], content: &'a [u8]) -> Option<&'a [u8]>
+    ensures { MatchOption result (layout.texts limits.now content.now ≡ false) (λ rest. (layout.texts limits.now content.now ≡ true) × (rest.now ≡ layout.after_texts limits.now content.now)) }
+{
+    let mut rest = content;
+    for most in limits {
+        rest = first_text(*most, rest)?.after;
+    }
+    Some(rest)
 }
 
 // Whether the content of a field has the form of a row of a kind.
 fn has_form(kind: Kind, content: &[u8]) -> bool
     ensures { result ≡ layout.fits kind content.now }
 {
-    let most = limits(kind);
-    let mut rest = content;
-    for i in 0..most.len() {
-        if !is_text(most[i], rest) {
-            return false;
-        }
-        rest = after(rest);
-    }
-    numbers_fit(kind, rest)
+    pass_texts(limits(kind), content).is_some_and(|rest| numbers_fit(kind, rest))
 }
 
 /// Whether the bytes begin with a row of a kind, in form.
 pub fn is_row(kind: Kind, bytes: &[u8]) -> bool
     ensures { result ≡ reading.is_row kind bytes.now }
 {
-    is_tagged(kind.number(), bytes) && has_form(kind, content(bytes))
+    Field::tagged(kind.number(), bytes).is_some_and(|row| has_form(kind, row.content))
 }

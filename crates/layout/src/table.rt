@@ -2,7 +2,7 @@
 ghost use Rattle.std.specs.Prelude.{◌≡◌, length};
 ghost use Rattle.layout.specs.Layout as layout;
 
-use fields::reads::be4;
+use fields::numbers::Number;
 use refusals::Kind;
 
 /// The tag of a text in a row.
@@ -17,6 +17,7 @@ pub const MISSING_2: u16 = 0xffff;
 /// All ones in four bytes: a missing number.
 pub const MISSING_4: u32 = 0xffff_ffff;
 
+// The two tables by kind are matches over a closed enum, which is their plainest form.
 /// How long each text of a row may be.
 pub fn limits(kind: Kind) -> &'static [u16]
     ensures { result.now ≡ layout.limits kind }
@@ -50,20 +51,17 @@ pub fn width(kind: Kind) -> usize
 fn is_paired(day: u32, second: u32) -> bool
     ensures { result ≡ layout.paired day second }
 {
-    if day == MISSING_4 {
-        second == MISSING_4
-    } else {
-        second != MISSING_4
-    }
+    (day == MISSING_4) == (second == MISSING_4)
 }
 
+// Of the closed enum of kinds one has such a moment.
 // Whether the modified moment of a head is given or missing as a whole.
 fn is_moment_whole(kind: Kind, content: &[u8]) -> bool
     requires { length content.now ≡ layout.width kind }
     ensures { result ≡ layout.moments kind content.now }
 {
     match kind {
-        Kind::Head => is_paired(be4(content, 10), be4(content, 14)),
+        Kind::Head => is_paired(u32::read(content, 10), u32::read(content, 14)),
         _ => true,
     }
 }
@@ -79,18 +77,5 @@ pub fn numbers_fit(kind: Kind, content: &[u8]) -> bool
 pub fn kind_of(tag: u8) -> Option<Kind>
     ensures { result ≡ layout.kind_of tag }
 {
-    match tag {
-        1 => Some(Kind::Head),
-        2 => Some(Kind::Line),
-        3 => Some(Kind::Stop),
-        4 => Some(Kind::Profile),
-        5 => Some(Kind::Special),
-        6 => Some(Kind::Link),
-        7 => Some(Kind::Section),
-        8 => Some(Kind::Use),
-        9 => Some(Kind::Pattern),
-        10 => Some(Kind::Override),
-        11 => Some(Kind::Journey),
-        _ => None,
-    }
+    Kind::try_from(tag).ok()
 }

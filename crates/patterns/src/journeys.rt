@@ -11,20 +11,11 @@ pub const STEPS_TO_PATTERN: usize = 1;
 pub fn pattern_of<C: Carrier>(c: &C, journey: usize) -> Option<usize>
     ensures value { result ≡ pattern_of (C.meaning c.now) journey }
 {
-    let mut at = journey;
-    let mut left = STEPS_TO_PATTERN;
-    loop {
-        let row = c.journey(at);
-        if let Some(pattern) = row.pattern {
-            return Some(pattern as usize);
+    let mut row = c.journey(journey);
+    for _ in 0..STEPS_TO_PATTERN {
+        if row.pattern.is_none() {
+            row = c.journey(usize::from(row.other?));
         }
-        if left == 0 {
-            return None;
-        }
-        match row.other {
-            None => return None,
-            Some(other) => at = other as usize,
-        }
-        left -= 1;
     }
+    row.pattern.map(usize::from)
 }

@@ -1,6 +1,7 @@
 // The links of a pattern, section by section.
 ghost use Rattle.std.specs.Prelude.{◌≡◌, length, nat_lt};
-ghost use Rattle.patterns.specs.Links.{ahead, links_of, opens, Stepped};
+ghost use Rattle.std.specs.Iterator.{YieldsFirst, item_count};
+ghost use Rattle.patterns.specs.Links.{ahead, links_left, links_of, opens, Stepped};
 
 use crate::cursor::{Cursor, Span};
 use deposit::carrier::Carrier;
@@ -20,10 +21,10 @@ pub fn along<C: Carrier>(c: &C, pattern: usize) -> Cursor
 {
     let row = c.pattern(pattern);
     Cursor {
-        links: Span { at: 0, left: 0 },
+        links: Span::default(),
         uses: Span {
-            at: row.first_use as usize,
-            left: row.uses as usize,
+            at: usize::from(row.first_use),
+            left: usize::from(row.uses),
         },
     }
 }
@@ -33,20 +34,46 @@ pub fn next_link<C: Carrier>(c: &C, cursor: &mut Cursor) -> Option<LinkRow>
     ensures rows { Stepped (ahead (C.meaning c.now) cursor.old) result (ahead (C.meaning c.now) cursor.new) }
 {
     loop {
-        if is_open(cursor.links, c.count(Kind::Link)) {
-            let link = c.link(cursor.links.at);
-            cursor.links.at += 1;
-            cursor.links.left -= 1;
-            return Some(link);
+        if let Some(link) = cursor.links.next(c.count(Kind::Link)) {
+            return Some(c.link(link));
         }
-        if !is_open(cursor.uses, c.count(Kind::Use)) {
-            return None;
+        let row = cursor.uses.next(c.count(Kind::Use))?;
+        let section = c.section(usize::from(c.use_of_section(row).section));
+        cursor.links = Span {
+            at: usize::from(section.first_link),
+            left: usize::from(section.links),
+        };
+    }
+}
+
+/// The links yet to come, as an iterator.
+#[derive(Drop)]
+pub struct Links<'c, C> {
+    pub carrier: &'c C,
+    pub cursor: Cursor,
+}
+
+impl<'c, C: Carrier> Links<'c, C> {
+    /// The links of a pattern, in order.
+    pub fn of(carrier: &'c C, pattern: usize) -> Links<'c, C>
+        ensures rows { links_left C.meaning result ≡ links_of (C.meaning carrier.now) pattern }
+    {
+        Links {
+            carrier,
+            cursor: along(carrier, pattern),
         }
-        let section = c.section(c.use_of_section(cursor.uses.at).section as usize);
-        cursor.links.at = section.first_link as usize;
-        cursor.links.left = section.links as usize;
-        cursor.uses.at += 1;
-        cursor.uses.left -= 1;
+    }
+}
+
+impl<C: Carrier> Iterator for Links<'_, C> {
+    type Item = LinkRow;
+
+    ghost next_gives = { YieldsFirst (links_left C.meaning) };
+
+    ghost remaining = { item_count (links_left C.meaning) };
+
+    fn next(&mut self) -> Option<LinkRow> {
+        next_link(self.carrier, &mut self.cursor)
     }
 }
 
@@ -54,13 +81,5 @@ pub fn next_link<C: Carrier>(c: &C, cursor: &mut Cursor) -> Option<LinkRow>
 pub fn has_links_past<C: Carrier>(c: &C, pattern: usize, position: usize) -> bool
     ensures value { result ≡ nat_lt position (length (links_of (C.meaning c.now) pattern)) }
 {
-    let mut cursor = along(c, pattern);
-    let mut passed = 0;
-    while let Some(_link) = next_link(c, &mut cursor) {
-        if passed == position {
-            return true;
-        }
-        passed += 1;
-    }
-    false
+    Links::of(c, pattern).nth(position).is_some()
 }

@@ -1,20 +1,13 @@
 -- Pieces one behind the other, and their lengths. Assumes nothing.
-use Rattle.std.proofs.Common.{◌≡◌, ℕ, ◌+◌, ◌*◌, ◌/◌, ◌%◌, ◌<◌, ◌≤◌, List, [], ◌∷◌, ◌++◌, length, get_or, take, drop, decimal, sym, refl, ap, ◌∙◌, append_assoc, append-nil, arith, length-append, take-append-drop}
-use Rattle.std.proofs.lemmas.Fmt.{decimal_digit}
+use Rattle.std.proofs.Common.{◌≡◌, ℕ, ◌+◌, ◌*◌, ◌/◌, ◌%◌, ◌<◌, ◌≤◌, List, [], ◌∷◌, ◌++◌, length, get_or, take, drop, sym, refl, ap, ◌∙◌, append_assoc, append-nil, arith, Bor, length-append, take-append-drop}
 use Rattle.std.proofs.lemmas.List.{take_more, length-take-le}
 use Rattle.pieces.specs.declared.piece.Piece.{Piece}
-use Rattle.pieces.specs.declared.piece.Piece.TheVariants.{Text}
+use Rattle.pieces.specs.declared.piece.Piece.TheVariants.{Text, Hex}
 use Rattle.pieces.specs.Texts.{hex_digit, hex_text, piece_text, pieces_text}
 
 -- what stands past the end of a list of pieces
 abbrev pub no_piece : Piece
 no_piece = Text (record { ref_ptr = (0, 0); now = [] })
-
--- the last digit of a number that has no other
-pub decimal_one : (n : ℕ) → n < 10 → (48 + n % 10) ∷ [] ≡ decimal n
-decimal_one n h =
-    let e : n % 10 ≡ n = omega arith in
-    ap (λ k. (48 + k) ∷ []) e ∙ sym (decimal_digit n h)
 
 pub pieces_append : (ps qs : List Piece) → pieces_text (ps ++ qs) ≡ pieces_text ps ++ pieces_text qs
 pieces_append [] qs = refl
@@ -35,9 +28,12 @@ module _ (ps : List Piece) (i : ℕ) (d : Piece) (h : i < length ps) where
       let all : pieces_text (take (i + 1) ps) ++ pieces_text (drop (i + 1) ps) ≡ pieces_text ps = sym (pieces_append (take (i + 1) ps) (drop (i + 1) ps)) ∙ ap pieces_text (take-append-drop (i + 1) ps) in
       omega (arith, ap length all, length-append (pieces_text (take (i + 1) ps)) (pieces_text (drop (i + 1) ps)), pieces_long)
 
-pub length-hex : (bs : List ℕ) → length (hex_text bs) ≡ 3 * length bs
+length-hex : (bs : List ℕ) → length (hex_text bs) ≡ 3 * length bs
 length-hex [] = refl
 length-hex (b ∷ bs) = omega (arith, length-hex bs)
+
+pub length-hex_piece : (piece : Piece) (bytes : Bor (List ℕ)) → piece ≡ Hex bytes → length (piece_text piece) ≡ 3 * length bytes.now
+length-hex_piece piece bytes is = ap (λ p. length (piece_text p)) is ∙ length-hex bytes.now
 
 hex_append : (xs ys : List ℕ) → hex_text (xs ++ ys) ≡ hex_text xs ++ hex_text ys
 hex_append [] ys = refl

@@ -5,9 +5,10 @@
 --   hex_text                 each byte as a blank and two hexadecimal digits
 --   piece_text               the bytes of a piece
 --   pieces_text              the bytes of pieces, one behind the other
+--   RoomBehind text room r   what is left of so many bytes behind the text; or it does not fit into them, and nothing is told
 --   Written text old r new   the text stands at the front of the buffer, and its length is told; or the buffer is too short, which is 44.
 --                            Behind the text, and in a buffer that is too short, every byte is as it was
-use Rattle.std.specs.Prelude.{◌≡◌, ℕ, ◌+◌, ◌/◌, ◌%◌, ◌<◌, cond, List, [], ◌∷◌, ◌++◌, length, drop, Ok, Err, decimal, Result, nat_lt}
+use Rattle.std.specs.Prelude.{◌≡◌, ℕ, ◌+◌, ◌/◌, ◌%◌, ◌<◌, cond, List, [], ◌∷◌, ◌++◌, length, drop, Some, None, Option, Ok, Err, decimal, Result, nat_lt}
 use Rattle.refusals.specs.declared.Refusal.{Refusal}
 use Rattle.refusals.specs.declared.Refusal.TheVariants.{TooShort}
 use Rattle.writing.specs.Puts.{padded}
@@ -33,6 +34,10 @@ piece_text (Hex bs) = hex_text bs.now
 abbrev pub pieces_text : List Piece → List ℕ
 pieces_text [] = []
 pieces_text (p ∷ ps) = piece_text p ++ pieces_text ps
+
+abbrev pub RoomBehind : List ℕ → ℕ → Option ℕ → Type 0
+RoomBehind text room (Some left) = left + length text ≡ room
+RoomBehind text room None = room < length text
 
 abbrev pub Written : List ℕ → List ℕ → Result ℕ Refusal → List ℕ → Type 0
 Written text old (Ok n) new = (n ≡ length text) × (new ≡ text ++ drop n old)

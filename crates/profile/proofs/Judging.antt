@@ -70,7 +70,7 @@ walked {X} {F} f num (x ∷ xs) r =
 
 mapped_none : {A B : Type 0} (g : A → B) (o : Option A) → option_map g o ≡ None → o ≡ None
 mapped_none g None e = refl
-mapped_none g (Some x) e = let z : ◌≡◌ {A = ℕ} 0 1 = cc in absurd (omega arith)
+mapped_none g (Some x) e = cc
 
 rising_kinds : (r : Rule) → Rising kind_number (judged r)
 rising_kinds rules-of.Counts = search std_rules
@@ -101,7 +101,7 @@ none_holds d r e =
     (subst (Walked (row_fault r d) kind_number (judged r)) e (walked (row_fault r d) kind_number (judged r) (rising_kinds r)))
 
 mapped_some : {A B : Type 0} (g : A → B) (o : Option A) (y : B) → option_map g o ≡ Some y → (x : A) × (o ≡ Some x) × (y ≡ g x)
-mapped_some g None y e = let z : ◌≡◌ {A = ℕ} 0 1 = cc in absurd (omega arith)
+mapped_some g None y e = absurd (cc)
 mapped_some g (Some x) y e = (x, refl, cc)
 
 -- a kind's fault is its lowest row that is not sound
@@ -140,14 +140,11 @@ holds_none d r h = go (rule_fault d r) refl
         let s = row_named r d w.one m.0 m.1 in
         absurd (s.1 (all-has (λ k. (n : ℕ) → n < subjects r d k → Sound r d k n) (judged r) w.one h w.among m.0 s.0))
 
-some_none : {X : Type 0} (o : Option X) (x : X) → o ≡ Some x → o ≡ None → ⊥
-some_none o x e f = let z : ◌≡◌ {A = ℕ} 0 1 = cc in omega arith
-
 walk_judged : (d : Deposit) (v : Option fault.DepositFault) → Walked (rule_fault d) rule_number rules v → Judged d v
 walk_judged d None w = record { right = record { holds = All-weaker (λ r. rule_fault d r ≡ None) (λ r. Holds r d) (none_holds d) rules w }; passing = λ _. refl }
 walk_judged d (Some e) w = record {
   right = rule_named d w.one e w.none_lower w.gives;
-  passing = λ p. absurd (some_none (rule_fault d w.one) e w.gives (holds_none d w.one (all-has (λ r. Holds r d) rules w.one p.holds w.among)));
+  passing = λ p. absurd (cc (w.gives, holds_none d w.one (all-has (λ r. Holds r d) rules w.one p.holds w.among)));
 }
 
 pub judged_verdict : (d : Deposit) → Judged d (verdict d)

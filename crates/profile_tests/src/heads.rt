@@ -1,8 +1,9 @@
 // Values of the head, its revision and its period.
-use crate::raws::{NONE, byte, code, given, given_half, half};
-use crate::told::told;
+use crate::edges::judge_cases;
 use deposit::rows::HeadRow;
 use deposit::tables::Tables;
+use profile::check::verdict;
+use refusals::{DepositFault, Kind, Rule};
 use samples::sample::sample;
 use times::moments::Moment;
 
@@ -21,67 +22,304 @@ pub(crate) const FIRST: HeadRow<'static> = HeadRow {
     profile: Some(0),
 };
 
-// Service code, revision, created day and second, modified day and second, modification, start, end, profile; and the
-// rule that such a head breaks, 0 for none.
-const HEADS: [[u32; 11]; 34] = [
-    [0, 0, 8000, 0, NONE, NONE, 1, 8067, NONE, 0, 0],
-    [1, 0, 8000, 0, NONE, NONE, 1, 8067, NONE, 0, 0],
-    [2, 0, 8000, 0, NONE, NONE, 1, 8067, NONE, 0, 12],
-    [3, 0, 8000, 0, NONE, NONE, 1, 8067, NONE, 0, 12],
-    [4, 0, 8000, 0, NONE, NONE, 1, 8067, NONE, 0, 12],
-    [5, 0, 8000, 0, NONE, NONE, 1, 8067, NONE, 0, 12],
-    [0, 0, 73_048, 86_399, NONE, NONE, 1, 8067, NONE, 0, 0],
-    [0, 0, 73_049, 0, NONE, NONE, 1, 8067, NONE, 0, 12],
-    [0, 0, 0, 86_400, NONE, NONE, 1, 8067, NONE, 0, 12],
-    [0, 0, 8000, 0, 73_049, 0, 1, 8067, NONE, 0, 12],
-    [0, 0, 8000, 0, NONE, NONE, 0, 8067, NONE, 0, 12],
-    [0, 0, 8000, 0, NONE, NONE, 3, 8067, NONE, 0, 12],
-    [0, 0, 8000, 0, NONE, NONE, 1, 73_048, NONE, 0, 0],
-    [0, 0, 8000, 0, NONE, NONE, 1, 73_049, NONE, 0, 12],
-    [0, 0, 8000, 0, NONE, NONE, 1, 8067, 73_048, 0, 0],
-    [0, 0, 8000, 0, NONE, NONE, 1, 8067, 73_049, 0, 12],
-    [0, 0, 8000, 0, NONE, NONE, 1, 8067, NONE, 1, 12],
-    [0, 0, 8000, 0, 8000, 0, 1, 8067, NONE, 0, 0],
-    [0, 0, 8000, 0, 8000, 1, 1, 8067, NONE, 0, 13],
-    [0, 0, 8000, 0, NONE, NONE, 2, 8067, NONE, 0, 13],
-    [0, 1, 8000, 0, NONE, NONE, 1, 8067, NONE, 0, 13],
-    [0, 1, 8000, 0, 8000, 1, 2, 8067, NONE, 0, 0],
-    [0, 65_535, 8000, 0, 8000, 1, 2, 8067, NONE, 0, 0],
-    [0, 0, 8000, 0, 8000, 1, 2, 8067, NONE, 0, 13],
-    [0, 1, 8000, 0, 8000, 1, 1, 8067, NONE, 0, 13],
-    [0, 1, 8000, 0, NONE, NONE, 2, 8067, NONE, 0, 13],
-    [0, 1, 8000, 0, 8000, 0, 2, 8067, NONE, 0, 13],
-    [0, 1, 8000, 0, 7999, 86_399, 2, 8067, NONE, 0, 13],
-    [0, 1, 8000, 0, 8001, 0, 2, 8067, NONE, 0, 0],
-    [0, 0, 8000, 0, NONE, NONE, 1, 8067, 8067, 0, 0],
-    [0, 0, 8000, 0, NONE, NONE, 1, 8067, 8066, 0, 14],
-    [0, 0, 8000, 0, NONE, NONE, 1, 8067, 0, 0, 14],
-    [0, 1, 8000, 0, 8000, 1, 2, 8067, 8066, 0, 14],
-    [0, 0, 8000, 0, NONE, NONE, 2, 8067, 8066, 0, 13],
+// A head, and the rule that it breaks.
+const HEADS: [(HeadRow<'static>, Option<Rule>); 34] = [
+    (FIRST, None),
+    (
+        HeadRow {
+            service: b"~23456789!23456789.12345",
+            ..FIRST
+        },
+        None,
+    ),
+    (
+        HeadRow {
+            service: b"123456789.123456789.12345",
+            ..FIRST
+        },
+        Some(Rule::Ranges),
+    ),
+    (
+        HeadRow {
+            service: b"",
+            ..FIRST
+        },
+        Some(Rule::Ranges),
+    ),
+    (
+        HeadRow {
+            service: b"A B",
+            ..FIRST
+        },
+        Some(Rule::Ranges),
+    ),
+    (
+        HeadRow {
+            service: b"A\x7f",
+            ..FIRST
+        },
+        Some(Rule::Ranges),
+    ),
+    (
+        HeadRow {
+            created: Moment {
+                day: 73_048,
+                second: 86_399,
+            },
+            ..FIRST
+        },
+        None,
+    ),
+    (
+        HeadRow {
+            created: Moment {
+                day: 73_049,
+                second: 0,
+            },
+            ..FIRST
+        },
+        Some(Rule::Ranges),
+    ),
+    (
+        HeadRow {
+            created: Moment {
+                day: 0,
+                second: 86_400,
+            },
+            ..FIRST
+        },
+        Some(Rule::Ranges),
+    ),
+    (
+        HeadRow {
+            modified: Some(Moment {
+                day: 73_049,
+                second: 0,
+            }),
+            ..FIRST
+        },
+        Some(Rule::Ranges),
+    ),
+    (
+        HeadRow {
+            modification: 0,
+            ..FIRST
+        },
+        Some(Rule::Ranges),
+    ),
+    (
+        HeadRow {
+            modification: 3,
+            ..FIRST
+        },
+        Some(Rule::Ranges),
+    ),
+    (
+        HeadRow {
+            start: 73_048,
+            ..FIRST
+        },
+        None,
+    ),
+    (
+        HeadRow {
+            start: 73_049,
+            ..FIRST
+        },
+        Some(Rule::Ranges),
+    ),
+    (
+        HeadRow {
+            end: Some(73_048),
+            ..FIRST
+        },
+        None,
+    ),
+    (
+        HeadRow {
+            end: Some(73_049),
+            ..FIRST
+        },
+        Some(Rule::Ranges),
+    ),
+    (
+        HeadRow {
+            profile: Some(1),
+            ..FIRST
+        },
+        Some(Rule::Ranges),
+    ),
+    (
+        HeadRow {
+            modified: Some(Moment {
+                day: 8000,
+                second: 0,
+            }),
+            ..FIRST
+        },
+        None,
+    ),
+    (
+        HeadRow {
+            modified: Some(Moment {
+                day: 8000,
+                second: 1,
+            }),
+            ..FIRST
+        },
+        Some(Rule::Revision),
+    ),
+    (
+        HeadRow {
+            modification: 2,
+            ..FIRST
+        },
+        Some(Rule::Revision),
+    ),
+    (
+        HeadRow {
+            revision: 1,
+            ..FIRST
+        },
+        Some(Rule::Revision),
+    ),
+    (
+        HeadRow {
+            revision: 1,
+            modified: Some(Moment {
+                day: 8000,
+                second: 1,
+            }),
+            modification: 2,
+            ..FIRST
+        },
+        None,
+    ),
+    (
+        HeadRow {
+            revision: 65_535,
+            modified: Some(Moment {
+                day: 8000,
+                second: 1,
+            }),
+            modification: 2,
+            ..FIRST
+        },
+        None,
+    ),
+    (
+        HeadRow {
+            modified: Some(Moment {
+                day: 8000,
+                second: 1,
+            }),
+            modification: 2,
+            ..FIRST
+        },
+        Some(Rule::Revision),
+    ),
+    (
+        HeadRow {
+            revision: 1,
+            modified: Some(Moment {
+                day: 8000,
+                second: 1,
+            }),
+            ..FIRST
+        },
+        Some(Rule::Revision),
+    ),
+    (
+        HeadRow {
+            revision: 1,
+            modification: 2,
+            ..FIRST
+        },
+        Some(Rule::Revision),
+    ),
+    (
+        HeadRow {
+            revision: 1,
+            modified: Some(Moment {
+                day: 8000,
+                second: 0,
+            }),
+            modification: 2,
+            ..FIRST
+        },
+        Some(Rule::Revision),
+    ),
+    (
+        HeadRow {
+            revision: 1,
+            modified: Some(Moment {
+                day: 7999,
+                second: 86_399,
+            }),
+            modification: 2,
+            ..FIRST
+        },
+        Some(Rule::Revision),
+    ),
+    (
+        HeadRow {
+            revision: 1,
+            modified: Some(Moment {
+                day: 8001,
+                second: 0,
+            }),
+            modification: 2,
+            ..FIRST
+        },
+        None,
+    ),
+    (
+        HeadRow {
+            end: Some(8067),
+            ..FIRST
+        },
+        None,
+    ),
+    (
+        HeadRow {
+            end: Some(8066),
+            ..FIRST
+        },
+        Some(Rule::Period),
+    ),
+    (
+        HeadRow {
+            end: Some(0),
+            ..FIRST
+        },
+        Some(Rule::Period),
+    ),
+    (
+        HeadRow {
+            revision: 1,
+            modified: Some(Moment {
+                day: 8000,
+                second: 1,
+            }),
+            modification: 2,
+            end: Some(8066),
+            ..FIRST
+        },
+        Some(Rule::Period),
+    ),
+    (
+        HeadRow {
+            modification: 2,
+            end: Some(8066),
+            ..FIRST
+        },
+        Some(Rule::Revision),
+    ),
 ];
 
-fn modified(day: u32, second: u32) -> Option<Moment> {
-    if day == NONE {
-        return None;
-    }
-    Some(Moment { day, second })
-}
-
-fn of_head(case: &[u32; 11]) -> (u8, u8, usize) {
-    let heads = [HeadRow {
-        service: code(case[0]),
-        revision: half(case[1]),
-        created: Moment {
-            day: case[2],
-            second: case[3],
-        },
-        modified: modified(case[4], case[5]),
-        modification: byte(case[6]),
-        start: case[7],
-        end: given(case[8]),
-        profile: given_half(case[9]),
-    }];
-    told(&Tables {
+fn of_head(head: HeadRow<'static>) -> Option<DepositFault> {
+    let heads = [head];
+    verdict(&Tables {
         heads: &heads,
         ..sample()
     })
@@ -89,9 +327,14 @@ fn of_head(case: &[u32; 11]) -> (u8, u8, usize) {
 
 #[test]
 fn heads_at_their_edges(rt: HostRuntime) {
-    for case in HEADS.iter() {
-        let (rule, kind, row) = of_head(case);
-        assert!(rt; u32::from(rule) == case[10]);
-        assert!(rt; rule == 0 || (kind == 1 && row == 0));
-    }
+    judge_cases(
+        &rt,
+        &HEADS,
+        of_head,
+        |rule| DepositFault::Breaks {
+            rule,
+            kind: Kind::Head,
+            row: 0,
+        },
+    );
 }

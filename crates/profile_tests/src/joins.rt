@@ -1,7 +1,9 @@
 // Patterns of several sections: how many links they have, and how these join.
-use crate::told::told;
+use crate::edges::judge_cases;
 use deposit::rows::{LinkRow, PatternRow, SectionRow, UseRow};
 use deposit::tables::Tables;
+use profile::check::verdict;
+use refusals::{DepositFault, Kind, Rule};
 use samples::sample::sample;
 
 // A link that can follow itself.
@@ -15,11 +17,16 @@ const ROUND: LinkRow = LinkRow {
     to_activity: 3,
 };
 
-// Stop and activity at which the second section's link begins, and the rule that it breaks, 0 for none.
-const BORDERS: [(u16, u8, u8); 4] = [(0, 3, 0), (1, 3, 18), (0, 4, 18), (1, 4, 18)];
+// Stop and activity at which the second section's link begins, and the rule that it breaks.
+const BORDERS: [((u16, u8), Option<Rule>); 4] = [
+    ((0, 3), None),
+    ((1, 3), Some(Rule::Joining)),
+    ((0, 4), Some(Rule::Joining)),
+    ((1, 4), Some(Rule::Joining)),
+];
 
 // A pattern that uses a section of one link so often.
-fn of_uses(uses: u16) -> (u8, u8, usize) {
+fn of_uses(uses: u16) -> Option<DepositFault> {
     let links = [ROUND];
     let sections = [SectionRow {
         first_link: 0,
@@ -31,7 +38,7 @@ fn of_uses(uses: u16) -> (u8, u8, usize) {
         first_use: 0,
         uses,
     }];
-    told(&Tables {
+    verdict(&Tables {
         links: &links,
         sections: &sections,
         uses: &used,
@@ -41,7 +48,7 @@ fn of_uses(uses: u16) -> (u8, u8, usize) {
 }
 
 // A second pattern of two sections, the link of the second one with another beginning.
-fn of_border(from: u16, from_activity: u8) -> (u8, u8, usize) {
+fn of_border((from, from_activity): (u16, u8)) -> Option<DepositFault> {
     let links = [
         ROUND,
         LinkRow {
@@ -73,7 +80,7 @@ fn of_border(from: u16, from_activity: u8) -> (u8, u8, usize) {
             uses: 2,
         },
     ];
-    told(&Tables {
+    verdict(&Tables {
         links: &links,
         sections: &sections,
         uses: &uses,
@@ -84,18 +91,25 @@ fn of_border(from: u16, from_activity: u8) -> (u8, u8, usize) {
 
 #[test]
 fn two_hundred_links_are_the_most(rt: HostRuntime) {
-    let (rule, _, _) = of_uses(200);
-    assert_eq!(rt; rule, 0);
-    let (rule, kind, row) = of_uses(201);
-    assert!(rt; rule == 18 && kind == 9 && row == 0);
+    assert_eq!(rt; of_uses(200), None);
+    let one_more = DepositFault::Breaks {
+        rule: Rule::Joining,
+        kind: Kind::Pattern,
+        row: 0,
+    };
+    assert_eq!(rt; of_uses(201), Some(one_more));
 }
 
 #[test]
 fn sections_join_at_their_borders(rt: HostRuntime) {
-    for case in BORDERS.iter() {
-        let (from, from_activity, broken) = *case;
-        let (rule, kind, row) = of_border(from, from_activity);
-        assert_eq!(rt; rule, broken);
-        assert!(rt; broken == 0 || (kind == 9 && row == 1));
-    }
+    judge_cases(
+        &rt,
+        &BORDERS,
+        of_border,
+        |rule| DepositFault::Breaks {
+            rule,
+            kind: Kind::Pattern,
+            row: 1,
+        },
+    );
 }

@@ -4,6 +4,8 @@
 #[cfg(test)]
 mod counts;
 #[cfg(test)]
+mod edges;
+#[cfg(test)]
 mod heads;
 #[cfg(test)]
 mod joins;
@@ -16,8 +18,4 @@ mod overriding;
 #[cfg(test)]
 mod profiles;
 #[cfg(test)]
-mod raws;
-#[cfg(test)]
 mod stops;
-#[cfg(test)]
-mod told;

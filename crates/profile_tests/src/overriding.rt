@@ -1,7 +1,9 @@
 // Overrides: their values, and their positions along the pattern of a journey.
-use crate::told::told;
+use crate::edges::judge_cases;
 use deposit::rows::{JourneyRow, OverrideRow};
 use deposit::tables::Tables;
+use profile::check::verdict;
+use refusals::{DepositFault, Kind, Rule};
 use samples::sample::sample;
 
 const OVERRIDE: OverrideRow = OverrideRow {
@@ -11,87 +13,87 @@ const OVERRIDE: OverrideRow = OverrideRow {
     to_wait: None,
 };
 
-// An override of no journey, and the rule that it breaks, 0 for none.
-const OVERRIDES: [(OverrideRow, u8); 8] = [
+// An override of no journey, and the rule that it breaks.
+const OVERRIDES: [(OverrideRow, Option<Rule>); 8] = [
     (
         OverrideRow {
             position: 199,
             ..OVERRIDE
         },
-        0,
+        None,
     ),
     (
         OverrideRow {
             position: 200,
             ..OVERRIDE
         },
-        12,
+        Some(Rule::Ranges),
     ),
     (
         OverrideRow {
             run: Some(21_600),
             ..OVERRIDE
         },
-        0,
+        None,
     ),
     (
         OverrideRow {
             run: Some(21_601),
             ..OVERRIDE
         },
-        12,
+        Some(Rule::Ranges),
     ),
     (
         OverrideRow {
             from_wait: Some(3600),
             ..OVERRIDE
         },
-        0,
+        None,
     ),
     (
         OverrideRow {
             from_wait: Some(3601),
             ..OVERRIDE
         },
-        12,
+        Some(Rule::Ranges),
     ),
     (
         OverrideRow {
             to_wait: Some(3600),
             ..OVERRIDE
         },
-        0,
+        None,
     ),
     (
         OverrideRow {
             to_wait: Some(3601),
             ..OVERRIDE
         },
-        12,
+        Some(Rule::Ranges),
     ),
 ];
 
-// The positions of a journey's two overrides on a pattern of two links, and the rule that they break, 0 for none.
-const POSITIONS: [(u16, u16, u8); 7] = [
-    (0, 1, 0),
-    (0, 0, 19),
-    (1, 1, 19),
-    (1, 0, 19),
-    (0, 2, 19),
-    (1, 2, 19),
-    (0, 199, 19),
+// The positions of a journey's two overrides on a pattern of two links, and the rule that they break.
+const POSITIONS: [((u16, u16), Option<Rule>); 7] = [
+    ((0, 1), None),
+    ((0, 0), Some(Rule::Overriding)),
+    ((1, 1), Some(Rule::Overriding)),
+    ((1, 0), Some(Rule::Overriding)),
+    ((0, 2), Some(Rule::Overriding)),
+    ((1, 2), Some(Rule::Overriding)),
+    ((0, 199), Some(Rule::Overriding)),
 ];
 
-fn of_override(row: OverrideRow) -> (u8, u8, usize) {
+fn of_override(row: OverrideRow) -> Option<DepositFault> {
     let overrides = [row];
-    told(&Tables {
+    verdict(&Tables {
         overrides: &overrides,
         ..sample()
     })
 }
 
 // Two overrides of a second journey, which runs along the pattern of the first.
-fn of_positions(first: u16, second: u16) -> (u8, u8, usize) {
+fn of_positions((first, second): (u16, u16)) -> Option<DepositFault> {
     let overrides = [
         OverrideRow {
             position: first,
@@ -126,7 +128,7 @@ fn of_positions(first: u16, second: u16) -> (u8, u8, usize) {
             overrides: 2,
         },
     ];
-    told(&Tables {
+    verdict(&Tables {
         overrides: &overrides,
         journeys: &journeys,
         ..sample()
@@ -135,20 +137,28 @@ fn of_positions(first: u16, second: u16) -> (u8, u8, usize) {
 
 #[test]
 fn overrides_at_their_edges(rt: HostRuntime) {
-    for case in OVERRIDES.iter() {
-        let (row, broken) = *case;
-        let (rule, kind, row) = of_override(row);
-        assert_eq!(rt; rule, broken);
-        assert!(rt; broken == 0 || (kind == 10 && row == 0));
-    }
+    judge_cases(
+        &rt,
+        &OVERRIDES,
+        of_override,
+        |rule| DepositFault::Breaks {
+            rule,
+            kind: Kind::Override,
+            row: 0,
+        },
+    );
 }
 
 #[test]
 fn positions_rise_inside_the_pattern(rt: HostRuntime) {
-    for case in POSITIONS.iter() {
-        let (first, second, broken) = *case;
-        let (rule, kind, row) = of_positions(first, second);
-        assert_eq!(rt; rule, broken);
-        assert!(rt; broken == 0 || (kind == 11 && row == 1));
-    }
+    judge_cases(
+        &rt,
+        &POSITIONS,
+        of_positions,
+        |rule| DepositFault::Breaks {
+            rule,
+            kind: Kind::Journey,
+            row: 1,
+        },
+    );
 }

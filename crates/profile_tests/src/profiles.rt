@@ -1,7 +1,9 @@
 // Profiles and special days.
-use crate::told::told;
+use crate::edges::judge_cases;
 use deposit::rows::{ProfileRow, SpecialRow};
 use deposit::tables::Tables;
+use profile::check::verdict;
+use refusals::{DepositFault, Kind, Rule};
 use samples::sample::sample;
 
 const PROFILE: ProfileRow = ProfileRow {
@@ -18,50 +20,50 @@ const SPECIAL: SpecialRow = SpecialRow {
     runs: 1,
 };
 
-// A profile over two special days, and the rule that it breaks, 0 for none.
-const PROFILES: [(ProfileRow, u8); 14] = [
-    (PROFILE, 0),
+// A profile over two special days, and the rule that it breaks.
+const PROFILES: [(ProfileRow, Option<Rule>); 14] = [
+    (PROFILE, None),
     (
         ProfileRow {
             weekdays: 0,
             ..PROFILE
         },
-        0,
+        None,
     ),
     (
         ProfileRow {
             weekdays: 128,
             ..PROFILE
         },
-        12,
+        Some(Rule::Ranges),
     ),
     (
         ProfileRow {
             runs: 255,
             ..PROFILE
         },
-        0,
+        None,
     ),
     (
         ProfileRow {
             runs: 256,
             ..PROFILE
         },
-        12,
+        Some(Rule::Ranges),
     ),
     (
         ProfileRow {
             not_runs: 255,
             ..PROFILE
         },
-        0,
+        None,
     ),
     (
         ProfileRow {
             not_runs: 256,
             ..PROFILE
         },
-        12,
+        Some(Rule::Ranges),
     ),
     (
         ProfileRow {
@@ -69,7 +71,7 @@ const PROFILES: [(ProfileRow, u8); 14] = [
             specials: 1,
             ..PROFILE
         },
-        0,
+        None,
     ),
     (
         ProfileRow {
@@ -77,14 +79,14 @@ const PROFILES: [(ProfileRow, u8); 14] = [
             specials: 0,
             ..PROFILE
         },
-        0,
+        None,
     ),
     (
         ProfileRow {
             first_special: 1,
             ..PROFILE
         },
-        12,
+        Some(Rule::Ranges),
     ),
     (
         ProfileRow {
@@ -92,7 +94,7 @@ const PROFILES: [(ProfileRow, u8); 14] = [
             specials: 65_535,
             ..PROFILE
         },
-        12,
+        Some(Rule::Ranges),
     ),
     (
         ProfileRow {
@@ -100,7 +102,7 @@ const PROFILES: [(ProfileRow, u8); 14] = [
             not_runs: 85,
             ..PROFILE
         },
-        0,
+        None,
     ),
     (
         ProfileRow {
@@ -108,7 +110,7 @@ const PROFILES: [(ProfileRow, u8); 14] = [
             not_runs: 255,
             ..PROFILE
         },
-        16,
+        Some(Rule::Days),
     ),
     (
         ProfileRow {
@@ -116,27 +118,27 @@ const PROFILES: [(ProfileRow, u8); 14] = [
             not_runs: 5,
             ..PROFILE
         },
-        16,
+        Some(Rule::Days),
     ),
 ];
 
-// A second special, and the rule that it breaks, 0 for none.
-const SPECIALS: [(SpecialRow, u8); 8] = [
-    (SPECIAL, 0),
+// A second special, and the rule that it breaks.
+const SPECIALS: [(SpecialRow, Option<Rule>); 8] = [
+    (SPECIAL, None),
     (
         SpecialRow {
             first: 73_048,
             last: 73_048,
             ..SPECIAL
         },
-        0,
+        None,
     ),
     (
         SpecialRow {
             last: 73_049,
             ..SPECIAL
         },
-        12,
+        Some(Rule::Ranges),
     ),
     (
         SpecialRow {
@@ -144,39 +146,39 @@ const SPECIALS: [(SpecialRow, u8); 8] = [
             last: 73_049,
             ..SPECIAL
         },
-        12,
+        Some(Rule::Ranges),
     ),
-    (SpecialRow { runs: 0, ..SPECIAL }, 0),
-    (SpecialRow { runs: 2, ..SPECIAL }, 12),
+    (SpecialRow { runs: 0, ..SPECIAL }, None),
+    (SpecialRow { runs: 2, ..SPECIAL }, Some(Rule::Ranges)),
     (
         SpecialRow {
             last: 8068,
             ..SPECIAL
         },
-        0,
+        None,
     ),
     (
         SpecialRow {
             last: 8066,
             ..SPECIAL
         },
-        16,
+        Some(Rule::Days),
     ),
 ];
 
-fn of_profile(profile: ProfileRow) -> (u8, u8, usize) {
+fn of_profile(profile: ProfileRow) -> Option<DepositFault> {
     let profiles = [profile];
     let specials = [SPECIAL, SPECIAL];
-    told(&Tables {
+    verdict(&Tables {
         profiles: &profiles,
         specials: &specials,
         ..sample()
     })
 }
 
-fn of_special(special: SpecialRow) -> (u8, u8, usize) {
+fn of_special(special: SpecialRow) -> Option<DepositFault> {
     let specials = [SPECIAL, special];
-    told(&Tables {
+    verdict(&Tables {
         specials: &specials,
         ..sample()
     })
@@ -184,20 +186,28 @@ fn of_special(special: SpecialRow) -> (u8, u8, usize) {
 
 #[test]
 fn profiles_at_their_edges(rt: HostRuntime) {
-    for case in PROFILES.iter() {
-        let (profile, broken) = *case;
-        let (rule, kind, row) = of_profile(profile);
-        assert_eq!(rt; rule, broken);
-        assert!(rt; broken == 0 || (kind == 4 && row == 0));
-    }
+    judge_cases(
+        &rt,
+        &PROFILES,
+        of_profile,
+        |rule| DepositFault::Breaks {
+            rule,
+            kind: Kind::Profile,
+            row: 0,
+        },
+    );
 }
 
 #[test]
 fn specials_at_their_edges(rt: HostRuntime) {
-    for case in SPECIALS.iter() {
-        let (special, broken) = *case;
-        let (rule, kind, row) = of_special(special);
-        assert_eq!(rt; rule, broken);
-        assert!(rt; broken == 0 || (kind == 5 && row == 1));
-    }
+    judge_cases(
+        &rt,
+        &SPECIALS,
+        of_special,
+        |rule| DepositFault::Breaks {
+            rule,
+            kind: Kind::Special,
+            row: 1,
+        },
+    );
 }

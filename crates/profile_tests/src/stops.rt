@@ -1,7 +1,9 @@
 // Lines and stops.
-use crate::told::told;
+use crate::edges::judge_cases;
 use deposit::rows::{LineRow, StopRow};
 use deposit::tables::Tables;
+use profile::check::verdict;
+use refusals::{DepositFault, Kind, Rule};
 use samples::sample::sample;
 
 const LINE: LineRow<'static> = LineRow {
@@ -16,51 +18,51 @@ const EIGHTY: &[u8] =
 const EIGHTY_ONE: &[u8] =
     b"123456789.123456789.123456789.123456789.123456789.123456789.123456789.123456789.1";
 
-// A second line, and the rule that it breaks, 0 for none.
-const LINES: [(LineRow<'static>, u8); 10] = [
-    (LINE, 0),
+// A second line, and the rule that it breaks.
+const LINES: [(LineRow<'static>, Option<Rule>); 10] = [
+    (LINE, None),
     (
         LineRow {
             name: b"123456789 123456789 1234",
             ..LINE
         },
-        0,
+        None,
     ),
     (
         LineRow {
             name: b"123456789 123456789 12345",
             ..LINE
         },
-        12,
+        Some(Rule::Ranges),
     ),
-    (LineRow { name: b"", ..LINE }, 12),
+    (LineRow { name: b"", ..LINE }, Some(Rule::Ranges)),
     (
         LineRow {
             outbound: EIGHTY,
             ..LINE
         },
-        0,
+        None,
     ),
     (
         LineRow {
             outbound: EIGHTY_ONE,
             ..LINE
         },
-        12,
+        Some(Rule::Ranges),
     ),
     (
         LineRow {
             inbound: EIGHTY,
             ..LINE
         },
-        0,
+        None,
     ),
     (
         LineRow {
             inbound: EIGHTY_ONE,
             ..LINE
         },
-        12,
+        Some(Rule::Ranges),
     ),
     (
         LineRow {
@@ -68,14 +70,14 @@ const LINES: [(LineRow<'static>, u8); 10] = [
             inbound: b"C",
             ..LINE
         },
-        0,
+        None,
     ),
     (
         LineRow {
             outbound: b"",
             ..LINE
         },
-        15,
+        Some(Rule::Description),
     ),
 ];
 
@@ -84,79 +86,79 @@ const STOP: StopRow<'static> = StopRow {
     name: b"Castle",
 };
 
-// A third stop behind A and B, and the rule that it breaks, 0 for none.
-const STOPS: [(StopRow<'static>, u8); 12] = [
-    (STOP, 0),
+// A third stop behind A and B, and the rule that it breaks.
+const STOPS: [(StopRow<'static>, Option<Rule>); 12] = [
+    (STOP, None),
     (
         StopRow {
             code: b"123456789.12",
             ..STOP
         },
-        0,
+        None,
     ),
     (
         StopRow {
             code: b"123456789.123",
             ..STOP
         },
-        12,
+        Some(Rule::Ranges),
     ),
-    (StopRow { code: b"", ..STOP }, 12),
+    (StopRow { code: b"", ..STOP }, Some(Rule::Ranges)),
     (
         StopRow {
             code: b"!~",
             ..STOP
         },
-        0,
+        None,
     ),
     (
         StopRow {
             code: b"C ",
             ..STOP
         },
-        12,
+        Some(Rule::Ranges),
     ),
     (
         StopRow {
             name: b"123456789.123456789.123456789.123456789.12345678",
             ..STOP
         },
-        0,
+        None,
     ),
     (
         StopRow {
             name: b"123456789.123456789.123456789.123456789.123456789",
             ..STOP
         },
-        12,
+        Some(Rule::Ranges),
     ),
-    (StopRow { name: b"", ..STOP }, 12),
+    (StopRow { name: b"", ..STOP }, Some(Rule::Ranges)),
     (
         StopRow {
             name: b"Bridge",
             ..STOP
         },
-        0,
+        None,
     ),
-    (StopRow { code: b"A", ..STOP }, 20),
-    (StopRow { code: b"B", ..STOP }, 20),
+    (StopRow { code: b"A", ..STOP }, Some(Rule::Codes)),
+    (StopRow { code: b"B", ..STOP }, Some(Rule::Codes)),
 ];
 
-fn of_line(line: LineRow<'static>) -> (u8, u8, usize) {
+fn of_line(line: LineRow<'static>) -> Option<DepositFault> {
     let lines = [LINE, line];
-    told(&Tables {
+    verdict(&Tables {
         lines: &lines,
         ..sample()
     })
 }
 
-fn of_stop(stop: StopRow<'static>) -> (u8, u8, usize) {
+fn of_stop(stop: StopRow<'static>) -> Option<DepositFault> {
     let stops = [
         StopRow { code: b"A", ..STOP },
         StopRow { code: b"B", ..STOP },
         stop,
     ];
-    told(&Tables {
+    verdict(&Tables {
         stops: &stops,
         ..sample()
     })
@@ -164,20 +166,28 @@ fn of_stop(stop: StopRow<'static>) -> (u8, u8, usize) {
 
 #[test]
 fn lines_at_their_edges(rt: HostRuntime) {
-    for case in LINES.iter() {
-        let (line, broken) = *case;
-        let (rule, kind, row) = of_line(line);
-        assert_eq!(rt; rule, broken);
-        assert!(rt; broken == 0 || (kind == 2 && row == 1));
-    }
+    judge_cases(
+        &rt,
+        &LINES,
+        of_line,
+        |rule| DepositFault::Breaks {
+            rule,
+            kind: Kind::Line,
+            row: 1,
+        },
+    );
 }
 
 #[test]
 fn stops_at_their_edges(rt: HostRuntime) {
-    for case in STOPS.iter() {
-        let (stop, broken) = *case;
-        let (rule, kind, row) = of_stop(stop);
-        assert_eq!(rt; rule, broken);
-        assert!(rt; broken == 0 || (kind == 3 && row == 2));
-    }
+    judge_cases(
+        &rt,
+        &STOPS,
+        of_stop,
+        |rule| DepositFault::Breaks {
+            rule,
+            kind: Kind::Stop,
+            row: 2,
+        },
+    );
 }

@@ -1,2 +1,1 @@
-pub mod Visibles
 pub mod Decided

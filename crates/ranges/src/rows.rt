@@ -3,75 +3,26 @@ ghost use Rattle.std.specs.Prelude.{◌≡◌, Decides};
 ghost use Rattle.ranges.specs.Values.{in_range};
 ghost use Rattle.ranges.specs.Words.{InRange};
 
-use crate::refs::{
-    head_refers, journey_refers, link_refers, pattern_refers, profile_refers, section_refers,
-    use_refers,
-};
-use crate::values::{
-    head_fits, journey_fits, line_fits, link_fits, override_fits, pattern_fits, profile_fits,
-    section_fits, special_fits, stop_fits,
-};
+use crate::judged::Judged;
 use deposit::carrier::Carrier;
 use refusals::Kind;
 
-fn head_in_range<C: Carrier>(c: &C, row: usize) -> bool
-    ensures { result ≡ in_range (C.Carrier.meaning c.now) Kind.Head row }
-{
-    let head = c.head(row);
-    head_fits(head) && head_refers(c, head)
-}
-
-fn profile_in_range<C: Carrier>(c: &C, row: usize) -> bool
-    ensures { result ≡ in_range (C.Carrier.meaning c.now) Kind.Profile row }
-{
-    let profile = c.profile(row);
-    profile_fits(profile) && profile_refers(c, profile)
-}
-
-fn link_in_range<C: Carrier>(c: &C, row: usize) -> bool
-    ensures { result ≡ in_range (C.Carrier.meaning c.now) Kind.Link row }
-{
-    let link = c.link(row);
-    link_fits(link) && link_refers(c, link)
-}
-
-fn section_in_range<C: Carrier>(c: &C, row: usize) -> bool
-    ensures { result ≡ in_range (C.Carrier.meaning c.now) Kind.Section row }
-{
-    let section = c.section(row);
-    section_fits(section) && section_refers(c, section)
-}
-
-fn pattern_in_range<C: Carrier>(c: &C, row: usize) -> bool
-    ensures { result ≡ in_range (C.Carrier.meaning c.now) Kind.Pattern row }
-{
-    let pattern = c.pattern(row);
-    pattern_fits(pattern) && pattern_refers(c, pattern)
-}
-
-fn journey_in_range<C: Carrier>(c: &C, row: usize) -> bool
-    ensures { result ≡ in_range (C.Carrier.meaning c.now) Kind.Journey row }
-{
-    let journey = c.journey(row);
-    journey_fits(journey) && journey_refers(c, journey)
-}
-
-// The test of each kind.
+// One arm for each kind, since its rows are of a type of their own.
 fn row_in_range<C: Carrier>(c: &C, kind: Kind, row: usize) -> bool
     ensures { result ≡ in_range (C.Carrier.meaning c.now) kind row }
 {
     match kind {
-        Kind::Head => head_in_range(c, row),
-        Kind::Line => line_fits(c.line(row)),
-        Kind::Stop => stop_fits(c.stop(row)),
-        Kind::Profile => profile_in_range(c, row),
-        Kind::Special => special_fits(c.special(row)),
-        Kind::Link => link_in_range(c, row),
-        Kind::Section => section_in_range(c, row),
-        Kind::Use => use_refers(c, c.use_of_section(row)),
-        Kind::Pattern => pattern_in_range(c, row),
-        Kind::Override => override_fits(c.override_row(row)),
-        Kind::Journey => journey_in_range(c, row),
+        Kind::Head => c.head(row).is_in_range(c),
+        Kind::Line => c.line(row).is_in_range(c),
+        Kind::Stop => c.stop(row).is_in_range(c),
+        Kind::Profile => c.profile(row).is_in_range(c),
+        Kind::Special => c.special(row).is_in_range(c),
+        Kind::Link => c.link(row).is_in_range(c),
+        Kind::Section => c.section(row).is_in_range(c),
+        Kind::Use => c.use_of_section(row).is_in_range(c),
+        Kind::Pattern => c.pattern(row).is_in_range(c),
+        Kind::Override => c.override_row(row).is_in_range(c),
+        Kind::Journey => c.journey(row).is_in_range(c),
     }
 }
 

@@ -5,18 +5,13 @@ ghost use Rattle.ranges.specs.Texts.{visible, all_visible, is_name, is_code, Nam
 fn is_visible(byte: u8) -> bool
     ensures { result ≡ visible byte }
 {
-    33 <= byte && byte <= 126
+    (33..=126).contains(&byte)
 }
 
 fn all_visible(bytes: &[u8]) -> bool
     ensures { result ≡ all_visible bytes.now }
 {
-    for byte in bytes {
-        if !is_visible(*byte) {
-            return false;
-        }
-    }
-    true
+    bytes.iter().all(|byte| is_visible(*byte))
 }
 
 /// Whether a text has from 1 to `most` bytes.
@@ -24,7 +19,7 @@ pub fn is_name(bytes: &[u8], most: usize) -> bool
     ensures value { result ≡ is_name most bytes.now }
     ensures words { Decides result (Name most bytes.now) }
 {
-    1 <= bytes.len() && bytes.len() <= most
+    (1..=most).contains(&bytes.len())
 }
 
 /// Whether a text is a code of at most `most` bytes: from 1 to that many, each from 33 to 126.

@@ -1,41 +1,31 @@
 -- A row that is put in its place keeps the order, and every row, and stands behind its equals. Assumes nothing.
 use Rattle.std.proofs.Common.{◌≡◌, ℕ, zero, suc, Bool, true, false, not, ◌||◌, ◌⊎◌, List, [], ◌∷◌, drop, refl, ap, ◌∙◌, subst, inl, inr, ⊎_elim, add-one, arith}
-use Rattle.std.specs.List.{insert, AllByRecursion as All}
-use Rattle.std.specs.List.Sorted.{IsPermutation}
+use Rattle.std.specs.List.{insert, list_all, AllByRecursion as All}
 use Rattle.std.proofs.lemmas.Bool.{and_parts, and_from}
-use Rattle.std.proofs.lemmas.List.Sorted.{IsPermutation-refl, IsPermutation-cons, IsPermutation-swap, IsPermutation-trans}
-use Rattle.ranked.specs.Placing.{step, place, placed, every, in_order, later_behind}
+use Rattle.ranked.specs.Placing.{step, place, placed, in_order, later_behind}
 
 abbrev InOrder : {X : Type 0} → (X → X → Bool) → List X → Type 0
 InOrder nl [] = Unit {0}
 InOrder nl (x ∷ xs) = All (λ y. nl x y ≡ true) xs × InOrder nl xs
 
 module _ {X : Type 0} where
-  all_every : (p : X → Bool) (xs : List X) → every p xs ≡ true → All (λ y. p y ≡ true) xs
+  all_every : (p : X → Bool) (xs : List X) → list_all p xs ≡ true → All (λ y. p y ≡ true) xs
   all_every p [] e = tt
-  all_every p (x ∷ xs) e = let h = and_parts (p x) (every p xs) e in (h.0, all_every p xs h.1)
+  all_every p (x ∷ xs) e = let h = and_parts (p x) (list_all p xs) e in (h.0, all_every p xs h.1)
 
-  every_all : (p : X → Bool) (xs : List X) → All (λ y. p y ≡ true) xs → every p xs ≡ true
+  every_all : (p : X → Bool) (xs : List X) → All (λ y. p y ≡ true) xs → list_all p xs ≡ true
   every_all p [] a = refl
-  every_all p (x ∷ xs) a = and_from (p x) (every p xs) a.0 (every_all p xs a.1)
+  every_all p (x ∷ xs) a = and_from (p x) (list_all p xs) a.0 (every_all p xs a.1)
 
   from_test : (nl : X → X → Bool) (xs : List X) → in_order nl xs ≡ true → InOrder nl xs
   from_test nl [] e = tt
   from_test nl (x ∷ xs) e =
-      let h = and_parts (every (nl x) xs) (in_order nl xs) e in
+      let h = and_parts (list_all (nl x) xs) (in_order nl xs) e in
       (all_every (nl x) xs h.0, from_test nl xs h.1)
 
   to_test : (nl : X → X → Bool) (xs : List X) → InOrder nl xs → in_order nl xs ≡ true
   to_test nl [] o = refl
-  to_test nl (x ∷ xs) o = and_from (every (nl x) xs) (in_order nl xs) (every_all (nl x) xs o.0) (to_test nl xs o.1)
-
-pub inserted_shuffled : {X : Type 0} (xs : List X) (i : ℕ) (x : X) → IsPermutation (x ∷ xs) (insert xs i x)
-inserted_shuffled xs zero x = IsPermutation-refl (x ∷ xs)
-inserted_shuffled [] (suc i) x = IsPermutation-refl (x ∷ [])
-inserted_shuffled (y ∷ xs) (suc i) x =
-    IsPermutation-trans (x ∷ y ∷ xs) (y ∷ x ∷ xs) (insert (y ∷ xs) (suc i) x)
-    (IsPermutation-swap (x ∷ y ∷ xs) (y ∷ x ∷ xs) 0 1 (omega arith) (omega arith) refl)
-    (IsPermutation-cons y (x ∷ xs) (insert xs i x) (inserted_shuffled xs i x))
+  to_test nl (x ∷ xs) o = and_from (list_all (nl x) xs) (in_order nl xs) (every_all (nl x) xs o.0) (to_test nl xs o.1)
 
 drop_inserted : {X : Type 0} (xs : List X) (i : ℕ) (x : X) → drop (suc i) (insert xs i x) ≡ drop i xs
 drop_inserted xs zero x = refl
@@ -54,18 +44,18 @@ step_none b (suc m) e = absurd (omega arith)
 
 module _ {X : Type 0} (nl : X → X → Bool) (row : X) where
   -- no row behind the place ranks as early as `row`
-  every_later : (x : X) (xs : List X) → every (λ y. not (nl y row)) (drop (place nl row xs) xs) ≡ true → (b : Bool) (m : ℕ) → nl x row ≡ b → place nl row xs ≡ m → every (λ y. not (nl y row)) (drop (step b m) (x ∷ xs)) ≡ true
+  every_later : (x : X) (xs : List X) → list_all (λ y. not (nl y row)) (drop (place nl row xs) xs) ≡ true → (b : Bool) (m : ℕ) → nl x row ≡ b → place nl row xs ≡ m → list_all (λ y. not (nl y row)) (drop (step b m) (x ∷ xs)) ≡ true
   every_later x xs ih true zero f e = rw e at ih
-  every_later x xs ih false zero f e = and_from (not (nl x row)) (every (λ y. not (nl y row)) xs) (ap not f) (rw e at ih)
+  every_later x xs ih false zero f e = and_from (not (nl x row)) (list_all (λ y. not (nl y row)) xs) (ap not f) (rw e at ih)
   every_later x xs ih b (suc m) f e = rw e at ih
 
-  pub place_behind : (xs : List X) → every (λ y. not (nl y row)) (drop (place nl row xs) xs) ≡ true
+  pub place_behind : (xs : List X) → list_all (λ y. not (nl y row)) (drop (place nl row xs) xs) ≡ true
   place_behind [] = refl
   place_behind (x ∷ xs) = every_later x xs (place_behind xs) (nl x row) (place nl row xs) refl refl
 
   pub placed_later_behind : (xs : List X) → later_behind nl row (place nl row xs) (placed nl row xs) ≡ true
   placed_later_behind xs =
-      ap (every (λ y. not (nl y row))) (rw add-one (drop_inserted xs (place nl row xs) row)) ∙ place_behind xs
+      ap (list_all (λ y. not (nl y row))) (rw add-one (drop_inserted xs (place nl row xs) row)) ∙ place_behind xs
 
 module _ {X : Type 0} (nl : X → X → Bool) (total : (x y : X) → (nl x y || nl y x) ≡ true) (trans : (x y z : X) → nl x y ≡ true → nl y z ≡ true → nl x z ≡ true) (row : X) where
   turned : (x : X) → nl x row ≡ false → nl row x ≡ true

@@ -8,7 +8,7 @@
 --   in_order      each row ranks no later than every row behind it
 --   later_behind  every row behind the first p + 1 ranks later than the new one: with p its place, it stands behind its equals
 use Rattle.std.specs.Prelude.{◌≡◌, ℕ, zero, suc, ◌+◌, ◌<◌, ◌≤◌, Bool, true, cond, not, ◌&&◌, List, [], ◌∷◌, ◌++◌, length, take, drop, Ok, Err, Result}
-use Rattle.std.specs.List.{insert}
+use Rattle.std.specs.List.{insert, list_all}
 use Rattle.refusals.specs.declared.Refusal.{Refusal}
 use Rattle.refusals.specs.declared.Refusal.TheVariants.{TooShort}
 
@@ -28,13 +28,9 @@ abbrev pub Inserted : {R : Type 0} → (R → R → Bool) → R → ℕ → List
 Inserted nl row count xs ys (Ok n) = (count < length xs) × (n ≡ count + 1) × (ys ≡ placed nl row (take count xs) ++ drop (count + 1) xs)
 Inserted nl row count xs ys (Err e) = (length xs ≤ count) × (e ≡ TooShort) × (ys ≡ xs)
 
-abbrev pub every : {R : Type 0} → (R → Bool) → List R → Bool
-every p [] = true
-every p (x ∷ xs) = p x && every p xs
-
 abbrev pub in_order : {R : Type 0} → (R → R → Bool) → List R → Bool
 in_order nl [] = true
-in_order nl (x ∷ xs) = every (nl x) xs && in_order nl xs
+in_order nl (x ∷ xs) = list_all (nl x) xs && in_order nl xs
 
 abbrev pub later_behind : {R : Type 0} → (R → R → Bool) → R → ℕ → List R → Bool
-later_behind nl row p xs = every (λ x. not (nl x row)) (drop (p + 1) xs)
+later_behind nl row p xs = list_all (λ x. not (nl x row)) (drop (p + 1) xs)

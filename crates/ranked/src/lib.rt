@@ -1,13 +1,13 @@
 // Rows in rank order, in a slice that its owner lends: written once for every row that has a rank.
 #![tactic(auto)]
 
-ghost use Rattle.std.specs.Prelude.{◌≡◌, Bool, true, ◌||◌, ◌∷◌, take, IfOk};
+ghost use Rattle.std.specs.Prelude.{◌≡◌, Bool, true, ◌||◌, ◌∷◌, ◌≤◌, length, take, IfOk};
 ghost use Rattle.std.specs.List.Sorted.{IsPermutation};
 ghost use Rattle.ranked.specs.Placing.{Inserted, in_order, later_behind, place};
 
 use refusals::Refusal;
 
-/// A row that has a rank among its like.
+/// A row that has a rank among its like. A rank may read less of a row than `==` does, so it is no `Ord`.
 pub trait Rank {
     ghost no_later: { Self → Self → Bool };
 
@@ -22,6 +22,7 @@ pub trait Rank {
 
 /// Puts `row` among the first `count` rows, behind every one that ranks no later, and tells how many there are then.
 /// A list with no row behind the first `count` refuses with 44.
+// A list with a count beside it and no `Vec`: lists are lent, since the archive has no heap.
 pub fn insert<R: Rank + Copy>(rows: &mut [R], count: usize, row: R) -> Result<usize, Refusal>
     ensures rows { Inserted R.no_later row count rows.old rows.new result }
     ensures order { in_order R.no_later (take count rows.old) ≡ true → IfOk result (λ n. in_order R.no_later (take n rows.new) ≡ true) }
@@ -31,15 +32,19 @@ pub fn insert<R: Rank + Copy>(rows: &mut [R], count: usize, row: R) -> Result<us
     if count >= rows.len() {
         return Err(Refusal::TooShort);
     }
-    let mut at = count;
-    while at > 0 {
-        let before = rows[at - 1];
-        if before.ranks_no_later(&row) {
-            break;
-        }
-        rows[at] = before;
-        at -= 1;
-    }
-    rows[at] = row;
+    let at = place(&rows[..count], &row);
+    rows[count] = row;
+    rows[at..=count].rotate_right(1);
     Ok(count + 1)
+}
+
+// How many rows stand before the place of a new row.
+fn place<R: Rank>(rows: &[R], row: &R) -> usize
+    ensures value { result ≡ place R.no_later row.now rows.now }
+    ensures within { result ≤ length rows.now }
+{
+    match rows.iter().rposition(|before| before.ranks_no_later(row)) {
+        Some(last) => last + 1,
+        None => 0,
+    }
 }

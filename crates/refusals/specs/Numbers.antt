@@ -5,13 +5,15 @@
 --   values       what it names besides: a kind and a row, a place, an inner fault; in this order
 --   kind_number  the number of a kind of row
 --   kinds        every kind, in the order of the numbers
+--   KindTried    what is answered for a number that should be a kind's: the kind with that number, or 40 where no kind has it
 --   rule_number  the number of a rule of the profile
 --   rules        every rule, in the order in which they are checked
 --   told_fault   the number and the values of a deposit's fault, case by case
 --   place_of     the place of a fault of bytes
 --   told_bytes   the number and the place of a fault of bytes
 --   told         the number and the values of a refusal, case by case
-use Rattle.std.specs.Prelude.{List, [], ◌∷◌, ℕ}
+--   refusal_words   the words that tell a refusal: `refused`, a blank and its number in decimal
+use Rattle.std.specs.Prelude.{◌≡◌, List, [], ◌∷◌, ◌++◌, ℕ, Result, Ok, Err, codes, decimal}
 use Rattle.refusals.specs.declared.Kind.{Kind}
 use Rattle.refusals.specs.declared.Kind.TheVariants.{Head, Line, Stop, Profile, Special, Link, Section, Use, Pattern, Override, Journey}
 use Rattle.refusals.specs.declared.Rule.{Rule}
@@ -42,6 +44,10 @@ kind_number Journey = 11
 
 abbrev pub kinds : List Kind
 kinds = Head ∷ Line ∷ Stop ∷ Profile ∷ Special ∷ Link ∷ Section ∷ Use ∷ Pattern ∷ Override ∷ Journey ∷ []
+
+abbrev pub KindTried : ℕ → Result Kind Refusal → Type 0
+KindTried n (Ok kind) = n ≡ kind_number kind
+KindTried n (Err e) = ((kind : Kind) → n ≡ kind_number kind → ⊥) × (e ≡ OutOfRange)
 
 abbrev pub rule_number : Rule → ℕ
 rule_number Counts = 11
@@ -75,3 +81,6 @@ abbrev pub told : Refusal → Told
 told (Deposit fault) = told_fault fault
 told OutOfRange = record { number = 40; values = [] }
 told TooShort = record { number = 44; values = [] }
+
+abbrev pub refusal_words : Refusal → List ℕ
+refusal_words e = codes "refused " ++ decimal (told e).number

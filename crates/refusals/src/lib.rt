@@ -1,23 +1,27 @@
 // Every reason for which a call of the archive does not do what it was asked.
 #![tactic(auto)]
 
-ghost use Rattle.std.specs.Prelude.{◌≡◌};
-ghost use Rattle.refusals.specs.Numbers.{told, told_bytes, place_of, kind_number, rule_number};
+ghost use Rattle.std.specs.Prelude.{◌≡◌, Some};
+ghost use Rattle.refusals.specs.Numbers.{told, told_bytes, place_of, kind_number, rule_number, KindTried, refusal_words};
+ghost use Rattle.refusals.specs.declared.Refusal.TheVariants.{Deposit};
+
+use std::error::Error;
+use std::fmt;
 
 /// A kind of row of a deposit.
-#[derive(Clone, Copy)]
+#[derive(Clone, Copy, Debug, PartialEq, Eq)]
 pub enum Kind {
-    Head,
-    Line,
-    Stop,
-    Profile,
-    Special,
-    Link,
-    Section,
-    Use,
-    Pattern,
-    Override,
-    Journey,
+    Head = 1,
+    Line = 2,
+    Stop = 3,
+    Profile = 4,
+    Special = 5,
+    Link = 6,
+    Section = 7,
+    Use = 8,
+    Pattern = 9,
+    Override = 10,
+    Journey = 11,
 }
 
 /// Every kind, in the order of the numbers.
@@ -40,45 +44,57 @@ impl Kind {
     pub fn number(self) -> u8
         ensures value { result ≡ kind_number self }
     {
-        match self {
-            Kind::Head => 1,
-            Kind::Line => 2,
-            Kind::Stop => 3,
-            Kind::Profile => 4,
-            Kind::Special => 5,
-            Kind::Link => 6,
-            Kind::Section => 7,
-            Kind::Use => 8,
-            Kind::Pattern => 9,
-            Kind::Override => 10,
-            Kind::Journey => 11,
+        self as u8
+    }
+}
+
+/// The kind that a number stands for; 40 for the number of no kind.
+impl TryFrom<u8> for Kind {
+    type Error = Refusal;
+
+    ghost try_from_gives = { KindTried };
+
+    fn try_from(number: u8) -> Result<Kind, Refusal> {
+        match number {
+            1 => Ok(Kind::Head),
+            2 => Ok(Kind::Line),
+            3 => Ok(Kind::Stop),
+            4 => Ok(Kind::Profile),
+            5 => Ok(Kind::Special),
+            6 => Ok(Kind::Link),
+            7 => Ok(Kind::Section),
+            8 => Ok(Kind::Use),
+            9 => Ok(Kind::Pattern),
+            10 => Ok(Kind::Override),
+            11 => Ok(Kind::Journey),
+            _ => Err(Refusal::OutOfRange),
         }
     }
 }
 
 /// A rule of the profile that a deposit can break.
-#[derive(Clone, Copy)]
+#[derive(Clone, Copy, Debug, PartialEq, Eq)]
 pub enum Rule {
     /// 11: how many rows of a kind there are.
-    Counts,
+    Counts = 11,
     /// 12: a value or a reference is out of range.
-    Ranges,
+    Ranges = 12,
     /// 13: revision, modification and modified moment do not agree.
-    Revision,
+    Revision = 13,
     /// 14: the operating period ends before it starts.
-    Period,
+    Period = 14,
     /// 15: a line has no description.
-    Description,
+    Description = 15,
     /// 16: the holidays of a profile contradict each other, or a special ends before it starts.
-    Days,
+    Days = 16,
     /// 17: a journey does not name one pattern and a profile.
-    Reference,
+    Reference = 17,
     /// 18: the links of a pattern are too many or do not join.
-    Joining,
+    Joining = 18,
     /// 19: a journey's overrides do not rise, or lie outside its pattern.
-    Overriding,
+    Overriding = 19,
     /// 20: a stop code or a journey code stands twice.
-    Codes,
+    Codes = 20,
 }
 
 impl Rule {
@@ -86,30 +102,19 @@ impl Rule {
     pub fn number(self) -> u8
         ensures value { result ≡ rule_number self }
     {
-        match self {
-            Rule::Counts => 11,
-            Rule::Ranges => 12,
-            Rule::Revision => 13,
-            Rule::Period => 14,
-            Rule::Description => 15,
-            Rule::Days => 16,
-            Rule::Reference => 17,
-            Rule::Joining => 18,
-            Rule::Overriding => 19,
-            Rule::Codes => 20,
-        }
+        self as u8
     }
 }
 
 /// What is wrong with a deposit.
-#[derive(Clone, Copy)]
+#[derive(Clone, Copy, Debug, PartialEq, Eq)]
 pub enum DepositFault {
     /// 11 to 20: a row of a kind breaks a rule.
     Breaks { rule: Rule, kind: Kind, row: usize },
 }
 
 /// What is wrong with bytes that should be in form, and the place of the field that shows it.
-#[derive(Clone, Copy)]
+#[derive(Clone, Copy, Debug, PartialEq, Eq)]
 pub enum ByteFault {
     /// 50: a field overruns what holds it.
     Overruns { place: usize },
@@ -120,6 +125,7 @@ pub enum ByteFault {
 }
 
 impl ByteFault {
+    // Cases with a place in them have no discriminants to be their numbers.
     /// 50 to 52.
     pub fn number(self) -> u8
         ensures value { result ≡ (told_bytes self).number }
@@ -131,20 +137,21 @@ impl ByteFault {
         }
     }
 
+    // One arm for all cases of a closed enum, each of which has a place.
     /// The place of the field that shows it.
     pub fn place(self) -> usize
         ensures value { result ≡ place_of self }
     {
         match self {
-            ByteFault::Overruns { place } => place,
-            ByteFault::Undue { place } => place,
-            ByteFault::Misfits { place } => place,
+            ByteFault::Overruns { place }
+            | ByteFault::Undue { place }
+            | ByteFault::Misfits { place } => place,
         }
     }
 }
 
 /// A refusal: each case has one number, which `number` tells.
-#[derive(Clone, Copy)]
+#[derive(Clone, Copy, Debug, PartialEq, Eq)]
 pub enum Refusal {
     /// 11 to 20: a fault of the deposit.
     Deposit(DepositFault),
@@ -155,6 +162,7 @@ pub enum Refusal {
 }
 
 impl Refusal {
+    // A case with a fault in it has no discriminant to be its number.
     /// The number by which users know this refusal.
     pub fn number(self) -> u8
         ensures value { result ≡ (told self).number }
@@ -166,3 +174,22 @@ impl Refusal {
         }
     }
 }
+
+/// A fault of the deposit refuses it.
+impl From<DepositFault> for Refusal {
+    ghost from_gives = { λ fault refusal. refusal ≡ Deposit fault };
+
+    fn from(fault: DepositFault) -> Refusal {
+        Refusal::Deposit(fault)
+    }
+}
+
+impl fmt::Display for Refusal {
+    ghost output = { λ refusal. Some (refusal_words refusal) };
+
+    fn fmt<W: fmt::Write>(&self, f: &mut fmt::Formatter<W>) -> fmt::Result {
+        write!(f, "refused {}", self.number())
+    }
+}
+
+impl Error for Refusal {}

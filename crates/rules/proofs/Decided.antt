@@ -1,9 +1,10 @@
 -- Each rule's test of a row decides what its words say. Assumes nothing.
-use Rattle.std.proofs.Common.{◌≡◌, ℕ, zero, suc, ◌+◌, ◌-◌, ◌<◌, ◌≤◌, Bool, true, false, cond, not, eqb, ltb, leb, List, [], ◌∷◌, length, get_or, is_some, Some, None, Decides, Option, sym, refl, ap, subst, ⊎_elim, le_of_suc-le-suc, arith, rules}
+use Rattle.std.proofs.Common.{◌≡◌, ℕ, zero, suc, ◌+◌, ◌-◌, ◌<◌, ◌≤◌, Bool, true, false, cond, not, eqb, ltb, leb, List, [], ◌∷◌, length, get_or, is_some, Some, None, Decides, Option, sym, refl, ap, le_of_suc-le-suc, arith, rules}
 use lib.Bits.{bit_and}
-use Rattle.std.proofs.lemmas.Bool.{leb-true, leb-false, eqb-true, eqb-false, cases_lt, false≢true}
+use Rattle.std.proofs.lemmas.Bool.{leb-true, leb-false, eqb-true, eqb-false, false≢true}
 use Rattle.std.proofs.lemmas.Slice.Eq.{compares_Decides}
-use Rattle.std.proofs.lemmas.Bool.Decides.{Decides-or, Decides-not, Decides-eqb, Decides-ltb, Decides-like}
+use Rattle.std.proofs.Math.Bool.{and_comm}
+use Rattle.std.proofs.lemmas.Bool.Decides.{Decides-or, Decides-not, Decides-below_and, Decides-eqb, Decides-ltb, Decides-like}
 use Rattle.times.specs.declared.moments.Moment.{Moment}
 use Rattle.times.specs.Moments.{later}
 use Rattle.refusals.specs.declared.Kind as kind
@@ -226,10 +227,8 @@ overrides_decides links os =
 
 -- no number below n passes a test
 none_decides : (test : ℕ → Bool) (P : ℕ → Type 0) → ((m : ℕ) → Decides (test m) (P m)) → (n : ℕ) → Decides (none_below test n) ((m : ℕ) → m < n → P m → ⊥)
-none_decides test P each zero = (λ _ m h. absurd (omega arith), λ _. refl)
-none_decides test P each (suc n) =
-    Decides-like _ (λ p m h q. ⊎_elim (λ lt. p.0 m lt q) (λ ge. let e : m ≡ n = omega arith in p.1 (subst P e q)) (cases_lt m n))
-    (λ r. (λ m h. r m (omega arith), r n (omega arith))) (both (none_decides test P each n) (Decides-not (test n) (each n)))
+none_decides test P each =
+    Decides-below_and (λ m. not (test m)) (λ m. P m → ⊥) (none_below test) (λ m. Decides-not (test m) (each m)) refl (λ m. and_comm (none_below test m) (not (test m)))
 
 codes_decides : (d : Deposit) (k : kind.Kind) (n : ℕ) → Decides (codes_kept d k n) (Distinct d k n)
 codes_decides d k n =

@@ -1,3 +1,2 @@
-pub mod Nones
 pub mod Walks
 pub mod Decided

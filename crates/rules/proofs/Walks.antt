@@ -1,17 +1,37 @@
--- One link more of a pattern, and one override more of a journey. Assumes nothing.
-use Rattle.std.proofs.Common.{◌≡◌, ℕ, zero, suc, ◌+◌, ◌-◌, ◌<◌, ◌≤◌, true, false, ◌&&◌, ◌||◌, ltb, leb, List, ◌∷◌, is_some, Some, None, Option, sym, ap, ◌∙◌, arith}
-use Rattle.std.proofs.lemmas.Bool.{cond-true, cond-false, le-leb, lt-leb, or_left}
-use Rattle.deposit.specs.Deposit.{Deposit}
+-- The links of a pattern, the overrides of a journey and the earlier rows of a kind, one after another. Assumes nothing.
+use Rattle.std.proofs.Common.{◌≡◌, ℕ, zero, suc, ◌+◌, ◌-◌, ◌<◌, ◌≤◌, Bool, true, false, not, ◌&&◌, leb, List, [], ◌∷◌, length, drop, Some, None, Option, sym, refl, ap, ◌∙◌, arith}
+use Rattle.std.specs.List.{list_all, zip, range_with_len}
+use Rattle.std.proofs.Math.Bool.{and_assoc, and-true, and-false}
+use Rattle.std.proofs.lemmas.Bool.{cond-true, cond-false, le-leb, lt-leb, lt-ltb}
 use Rattle.deposit.specs.declared.rows.LinkRow.{LinkRow}
 use Rattle.deposit.specs.declared.rows.OverrideRow.{OverrideRow}
-use Rattle.rules.specs.Tests.{may_follow, joined, rise_end, journey_at, leads, leads_lower}
+use Rattle.rules.specs.Tests.{none_below, meets, may_follow, joined, rise_end}
 
-module _ (left : ℕ) (before : Option LinkRow) (l : LinkRow) (xs ls : List LinkRow) (s : xs ≡ l ∷ ls) where
-  pub joined_not : false ≡ may_follow left before l → false ≡ joined left before xs
-  joined_not e = ap (λ t. t && joined (left - 1) (Some l) ls) e ∙ sym (ap (joined left before) s)
+-- each of two neighbours meets the other
+abbrev pub meet : LinkRow × LinkRow → Bool
+meet p = meets p.0 p.1
 
-  pub joined_more : true ≡ may_follow left before l → joined left before xs ≡ joined (left - 1) (Some l) ls
-  joined_more e = ap (joined left before) s ∙ sym (ap (λ t. t && joined (left - 1) (Some l) ls) e)
+pub joined_on : (left : ℕ) (l : LinkRow) (ls : List LinkRow) → length ls ≤ left → list_all meet (zip (l ∷ ls) ls) ≡ joined left (Some l) ls
+joined_on left l [] h = refl
+joined_on left l (m ∷ ms) h =
+    ap (λ t. meets l m && t) (joined_on (left - 1) m ms (omega arith))
+    ∙ ap (λ b. (b && meets l m) && joined (left - 1) (Some m) ms) (sym (lt-ltb 0 left (omega arith)))
+
+-- links that are few enough are joined where neighbours meet
+pub joined_few : (left : ℕ) (ls : List LinkRow) → length ls ≤ left → list_all meet (zip ls (drop 1 ls)) ≡ joined left None ls
+joined_few left [] h = refl
+joined_few left (l ∷ ls) h =
+    joined_on (left - 1) l ls (omega arith)
+    ∙ ap (λ b. (b && true) && joined (left - 1) (Some l) ls) (sym (lt-ltb 0 left (omega arith)))
+
+-- too many links are not joined
+pub joined_many : (left : ℕ) (before : Option LinkRow) (ls : List LinkRow) → left < length ls → false ≡ joined left before ls
+joined_many left before [] h = absurd (omega arith)
+joined_many zero before (l ∷ ls) h = refl
+joined_many (suc left) before (l ∷ ls) h =
+    let next : left ≡ suc left - 1 = omega arith in
+    sym (and-false (may_follow (suc left) before l))
+    ∙ ap (λ t. may_follow (suc left) before l && t) (joined_many left (Some l) ls (omega arith) ∙ ap (λ k. joined k (Some l) ls) next)
 
 module _ (least p : ℕ) (o : OverrideRow) (xs os : List OverrideRow) (s : xs ≡ o ∷ os) (e : p ≡ o.position) where
   pub rise_not : p < least → None ≡ rise_end least xs
@@ -24,19 +44,19 @@ module _ (least p : ℕ) (o : OverrideRow) (xs os : List OverrideRow) (s : xs �
       ∙ cond-true (leb least o.position) (rise_end (o.position + 1) os) None (ap (leb least) (sym e) ∙ le-leb least p h)
       ∙ ap (λ q. rise_end (q + 1) os) (sym e)
 
--- what a journey leads to, by what its row names
-module _ (d : Deposit) (n : ℕ) (p o : Option ℕ) (own : p ≡ (journey_at d n).pattern) (other : o ≡ (journey_at d n).other) where
-  pub leads_own : (s : ℕ) → true ≡ is_some p → true ≡ leads s d n
-  leads_own zero h = h ∙ ap is_some own
-  leads_own (suc s) h = sym (or_left (is_some (journey_at d n).pattern) (leads_lower (leads s d) n (journey_at d n).other) (sym (h ∙ ap is_some own)))
+-- none of the numbers below a, nor of the n from a on, passes a test
+none_on : (test : ℕ → Bool) (a n : ℕ) → (none_below test a && list_all (λ m. not (test m)) (range_with_len a n)) ≡ none_below test (a + n)
+none_on test a zero =
+    let same : a ≡ a + 0 = omega arith in
+    and-true (none_below test a) ∙ ap (none_below test) same
+none_on test a (suc n) =
+    let rest = list_all (λ m. not (test m)) (range_with_len (a + 1) n) in
+    let next : suc a ≡ a + 1 = omega arith in
+    let end : a + 1 + n ≡ a + suc n = omega arith in
+    sym (and_assoc (none_below test a) (not (test a)) rest)
+    ∙ ap (λ k. none_below test k && rest) next
+    ∙ none_on test (a + 1) n
+    ∙ ap (none_below test) end
 
-  lower : (s : ℕ) → false ≡ is_some p → leads (suc s) d n ≡ leads_lower (leads s d) n o
-  lower s h = ap (λ t. t || leads_lower (leads s d) n (journey_at d n).other) (sym (h ∙ ap is_some own)) ∙ ap (leads_lower (leads s d) n) (sym other)
-
-  pub leads_none : (s : ℕ) → false ≡ is_some p → o ≡ None → false ≡ leads s d n
-  leads_none zero h e = h ∙ ap is_some own
-  leads_none (suc s) h e = sym (lower s h ∙ ap (leads_lower (leads s d) n) e)
-
-  pub leads_on : (s m : ℕ) → 0 < s → false ≡ is_some p → o ≡ Some m → (ltb m n && leads (s - 1) d m) ≡ leads s d n
-  leads_on zero m k h e = absurd (omega arith)
-  leads_on (suc s) m k h e = ap (λ q. ltb m n && leads q d m) (omega arith) ∙ sym (lower s h ∙ ap (leads_lower (leads s d) n) e)
+pub none_all : (test : ℕ → Bool) (n : ℕ) → list_all (λ m. not (test m)) (range_with_len 0 n) ≡ none_below test n
+none_all test n = let same : 0 + n ≡ n = omega arith in none_on test 0 n ∙ ap (none_below test) same

@@ -19,6 +19,7 @@ fn special_kept<C: Carrier>(c: &C, row: usize) -> bool
     special.first <= special.last
 }
 
+// Two kinds of a closed enum, each with its test.
 pub(crate) fn days_kept<C: Carrier>(c: &C, kind: Kind, row: usize) -> bool
     ensures { result ≡ days_kept (C.Carrier.meaning c.now) kind row }
 {

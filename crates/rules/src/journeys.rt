@@ -8,17 +8,13 @@ use deposit::carrier::Carrier;
 use deposit::rows::JourneyRow;
 use patterns::cursor::Span;
 use patterns::journeys::{STEPS_TO_PATTERN, pattern_of};
-use patterns::links::{has_links_past, is_open};
+use patterns::links::has_links_past;
 use refusals::Kind;
 
 fn names_one(journey: JourneyRow<'_>) -> bool
     ensures { result ≡ names_one (journey_of journey.entry) }
 {
-    if journey.pattern.is_some() {
-        !journey.other.is_some()
-    } else {
-        journey.other.is_some()
-    }
+    journey.pattern.is_some() != journey.other.is_some()
 }
 
 fn has_profile<C: Carrier>(c: &C, journey: JourneyRow<'_>) -> bool
@@ -35,16 +31,10 @@ fn leads_to_pattern<C: Carrier>(c: &C, steps: usize, row: usize) -> bool
     if journey.pattern.is_some() {
         return true;
     }
-    if steps == 0 {
+    let Some(other) = journey.other.map(usize::from) else {
         return false;
-    }
-    match journey.other {
-        Some(other) => {
-            let other = usize::from(other);
-            other < row && leads_to_pattern(c, steps - 1, other)
-        }
-        None => false,
-    }
+    };
+    steps > 0 && other < row && leads_to_pattern(c, steps - 1, other)
 }
 
 pub(crate) fn reference_kept<C: Carrier>(c: &C, row: usize) -> bool
@@ -61,14 +51,12 @@ fn rise_end<C: Carrier>(c: &C, start: Span) -> Option<usize>
     let rows = c.count(Kind::Override);
     let mut least = 0;
     let mut span = start;
-    while is_open(span, rows) {
-        let position = usize::from(c.override_row(span.at).position);
+    while let Some(at) = span.next(rows) {
+        let position = usize::from(c.override_row(at).position);
         if position < least {
             return None;
         }
         least = position + 1;
-        span.at += 1;
-        span.left -= 1;
     }
     Some(least)
 }
@@ -81,12 +69,7 @@ pub(crate) fn overriding_kept<C: Carrier>(c: &C, row: usize) -> bool
         at: usize::from(journey.first_override),
         left: usize::from(journey.overrides),
     };
-    match rise_end(c, overrides) {
-        None => false,
-        Some(0) => true,
-        Some(end) => match pattern_of(c, row) {
-            Some(pattern) => has_links_past(c, pattern, end - 1),
-            None => false,
-        },
-    }
+    rise_end(c, overrides).is_some_and(|end| {
+        end == 0 || pattern_of(c, row).is_some_and(|pattern| has_links_past(c, pattern, end - 1))
+    })
 }

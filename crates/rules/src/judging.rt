@@ -27,6 +27,7 @@ pub const RULES: [Rule; 10] = [
     Rule::Codes,
 ];
 
+// A match over the closed enum of rules, which is the plainest table of them.
 /// The kinds that a rule looks at, in the order of their numbers.
 pub fn judged_kinds(rule: Rule) -> &'static [Kind]
     ensures rows { result.now ≡ judged rule }
@@ -42,6 +43,7 @@ pub fn judged_kinds(rule: Rule) -> &'static [Kind]
     }
 }
 
+// One rule of the closed enum looks at the list and not at its rows.
 /// How many rows of a kind a rule judges: every row; of the rule on counts, the list itself as row 0.
 pub fn judged_rows<C: Carrier>(c: &C, rule: Rule, kind: Kind) -> usize
     ensures counted { result ≡ subjects rule (C.Carrier.meaning c.now) kind }
@@ -52,7 +54,7 @@ pub fn judged_rows<C: Carrier>(c: &C, rule: Rule, kind: Kind) -> usize
     }
 }
 
-// The test of each rule.
+// The test of each rule: a match over a closed enum. Kind and row stay apart, as few of the tests look at both.
 fn row_keeps<C: Carrier>(c: &C, rule: Rule, kind: Kind, row: usize) -> bool
     ensures { result ≡ kept rule (C.Carrier.meaning c.now) kind row }
 {

@@ -9,7 +9,7 @@ use deposit::rows::{
 use deposit::tables::Tables;
 use times::moments::Moment;
 
-pub(crate) const HEADS: [HeadRow<'static>; 1] = [HeadRow {
+pub(crate) const HEAD: HeadRow<'static> = HeadRow {
     service: b"S",
     revision: 0,
     created: Moment {
@@ -21,72 +21,71 @@ pub(crate) const HEADS: [HeadRow<'static>; 1] = [HeadRow {
     start: 8067,
     end: None,
     profile: Some(0),
-}];
+};
 
-const LINES: [LineRow<'static>; 1] = [LineRow {
+pub(crate) const LINE: LineRow<'static> = LineRow {
     name: b"1",
     outbound: b"A to C",
     inbound: b"",
-}];
+};
 
-const STOPS: [StopRow<'static>; 3] = [
-    StopRow {
-        code: b"A",
-        name: b"Abbey",
-    },
-    StopRow {
-        code: b"B",
-        name: b"Bridge",
-    },
-    StopRow {
-        code: b"C",
-        name: b"Castle",
-    },
-];
+pub(crate) const ABBEY: StopRow<'static> = StopRow {
+    code: b"A",
+    name: b"Abbey",
+};
 
-const PROFILES: [ProfileRow; 1] = [ProfileRow {
+pub(crate) const BRIDGE: StopRow<'static> = StopRow {
+    code: b"B",
+    name: b"Bridge",
+};
+
+pub(crate) const CASTLE: StopRow<'static> = StopRow {
+    code: b"C",
+    name: b"Castle",
+};
+
+pub(crate) const PROFILE: ProfileRow = ProfileRow {
     weekdays: 127,
     runs: 0,
     not_runs: 0,
     first_special: 0,
     specials: 0,
-}];
+};
 
-const LINKS: [LinkRow; 2] = [
-    LinkRow {
-        from: 0,
-        to: 1,
-        run: 300,
-        from_wait: 30,
-        to_wait: 30,
-        from_activity: 3,
-        to_activity: 3,
-    },
-    LinkRow {
-        from: 1,
-        to: 2,
-        run: 420,
-        from_wait: 60,
-        to_wait: 0,
-        from_activity: 3,
-        to_activity: 3,
-    },
-];
+pub(crate) const FIRST_LINK: LinkRow = LinkRow {
+    from: 0,
+    to: 1,
+    run: 300,
+    from_wait: 30,
+    to_wait: 30,
+    from_activity: 3,
+    to_activity: 3,
+};
 
-const SECTIONS: [SectionRow; 1] = [SectionRow {
+pub(crate) const SECOND_LINK: LinkRow = LinkRow {
+    from: 1,
+    to: 2,
+    run: 420,
+    from_wait: 60,
+    to_wait: 0,
+    from_activity: 3,
+    to_activity: 3,
+};
+
+const SECTION: SectionRow = SectionRow {
     first_link: 0,
     links: 2,
-}];
+};
 
-const USES: [UseRow; 1] = [UseRow { section: 0 }];
+const USE: UseRow = UseRow { section: 0 };
 
-const PATTERNS: [PatternRow; 1] = [PatternRow {
+const PATTERN: PatternRow = PatternRow {
     direction: 1,
     first_use: 0,
     uses: 1,
-}];
+};
 
-const JOURNEYS: [JourneyRow<'static>; 1] = [JourneyRow {
+pub(crate) const JOURNEY: JourneyRow<'static> = JourneyRow {
     code: b"J1",
     line: 0,
     pattern: Some(0),
@@ -96,23 +95,23 @@ const JOURNEYS: [JourneyRow<'static>; 1] = [JourneyRow {
     day_shift: 0,
     first_override: 0,
     overrides: 0,
-}];
+};
 
 /// The sample.
 pub fn sample() -> Tables<'static, 'static>
     ensures value { tables_mean result ≡ sample }
 {
     Tables {
-        heads: &HEADS,
-        lines: &LINES,
-        stops: &STOPS,
-        profiles: &PROFILES,
+        heads: &[HEAD],
+        lines: &[LINE],
+        stops: &[ABBEY, BRIDGE, CASTLE],
+        profiles: &[PROFILE],
         specials: &[],
-        links: &LINKS,
-        sections: &SECTIONS,
-        uses: &USES,
-        patterns: &PATTERNS,
+        links: &[FIRST_LINK, SECOND_LINK],
+        sections: &[SECTION],
+        uses: &[USE],
+        patterns: &[PATTERN],
         overrides: &[],
-        journeys: &JOURNEYS,
+        journeys: &[JOURNEY],
     }
 }

@@ -9,7 +9,7 @@ use refusals::Refusal;
 pub const LAST_SECOND: u32 = 86_399;
 
 /// A day and a second of it. A row that may still be wrong can hold any two numbers here; `new` lets none out of range in.
-#[derive(Clone, Copy)]
+#[derive(Clone, Copy, Debug, Default, PartialEq, Eq, PartialOrd, Ord)]
 pub struct Moment {
     pub day: u32,
     pub second: u32,
@@ -31,6 +31,6 @@ impl Moment {
         ensures value { result ≡ later self other }
         ensures seconds { LaterInSeconds }
     {
-        self.day > other.day || (self.day == other.day && self.second > other.second)
+        self > other
     }
 }

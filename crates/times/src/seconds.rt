@@ -5,11 +5,11 @@ ghost use Rattle.times.specs.Sums.{Sum};
 use std::ops::Add;
 
 /// Seconds from midnight of the operating day.
-#[derive(Clone, Copy)]
+#[derive(Clone, Copy, Debug, PartialEq, Eq, PartialOrd, Ord)]
 pub struct AbsoluteTime(pub u32);
 
 /// A length of time in seconds.
-#[derive(Clone, Copy)]
+#[derive(Clone, Copy, Debug, PartialEq, Eq, PartialOrd, Ord)]
 pub struct RelativeTime(pub u32);
 
 impl Add<RelativeTime> for AbsoluteTime {
@@ -36,16 +36,13 @@ impl Add<RelativeTime> for RelativeTime {
     }
 }
 
+// The two sums of each kind stay two: each is one call of the library, and one for both would hide that there is no sum of two times.
 impl AbsoluteTime {
     /// The time so much later, unless the number of its seconds is too great.
     pub fn checked_add(self, by: RelativeTime) -> Option<AbsoluteTime>
         ensures answer { Sum result (self.0 + by.0) (λ t. t.0) }
     {
-        if by.0 <= u32::MAX - self.0 {
-            Some(self + by)
-        } else {
-            None
-        }
+        self.0.checked_add(by.0).map(AbsoluteTime)
     }
 }
 
@@ -54,10 +51,6 @@ impl RelativeTime {
     pub fn checked_add(self, other: RelativeTime) -> Option<RelativeTime>
         ensures answer { Sum result (self.0 + other.0) (λ t. t.0) }
     {
-        if other.0 <= u32::MAX - self.0 {
-            Some(self + other)
-        } else {
-            None
-        }
+        self.0.checked_add(other.0).map(RelativeTime)
     }
 }

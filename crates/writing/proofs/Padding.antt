@@ -1,6 +1,5 @@
 -- Digits from the last to the first, and how many a number has. Assumes nothing.
-use Rattle.std.proofs.Common.{◌≡◌, ℕ, zero, suc, ◌+◌, ◌/◌, ◌%◌, ◌^◌, ◌<◌, ◌≤◌, List, [], ◌∷◌, ◌++◌, length, get_or, take, drop, set, decimal, sym, refl, ap, ◌∙◌, append_assoc, add-zero, add_assoc, add-one, arith, take-append-drop}
-use Rattle.std.proofs.lemmas.Fmt.{decimal_by_steps, decimal_step, decimal_digit}
+use Rattle.std.proofs.Common.{◌≡◌, ℕ, zero, suc, ◌+◌, ◌/◌, ◌%◌, ◌<◌, ◌≤◌, List, [], ◌∷◌, ◌++◌, length, get_or, take, drop, set, sym, refl, ap, ◌∙◌, subst, append_assoc, add-zero, add_assoc, add-one, arith, take-append-drop}
 use Rattle.std.proofs.lemmas.List.{length_push, take_all, take_more, drop_more, drop_all, set_at, same_from_push, length-take-le}
 use Rattle.writing.specs.Puts.{Put, padded}
 
@@ -11,33 +10,22 @@ pub length-padded : (w n : ℕ) → length (padded w n) ≡ w
 length-padded zero n = refl
 length-padded (suc w) n = length_push (padded w (n / 10)) (48 + n % 10) ∙ ap (λ k. k + 1) (length-padded w (n / 10)) ∙ add-one w
 
--- a number's decimal digits are its last ones, as many as it has
-pub padded_decimal : (n : ℕ) → n < 2 ^ 64 → padded (length (decimal n)) n ≡ decimal n
-padded_decimal =
-    decimal_by_steps (λ n ds. padded (length ds) n ≡ ds) (λ n h. ap (λ k. (48 + k) ∷ []) (omega arith)) λ n ds _ e.
-    ap (λ k. padded k n) (length_push ds (48 + n % 10)) ∙ padded_more (length ds) n ∙ ap (λ l. l ++ ((48 + n % 10) ∷ [])) e
-
-pub length-step : (n : ℕ) → 10 ≤ n → n < 2 ^ 64 → length (decimal n) ≡ length (decimal (n / 10)) + 1
-length-step n h k = ap length (decimal_step n h k) ∙ length_push (decimal (n / 10)) (48 + n % 10)
-
-pub length-digit : (n : ℕ) → n < 10 → length (decimal n) ≡ 1
-length-digit n h = ap length (decimal_digit n h)
-
 -- all but the first i digits are written, and these are the digits of the rest
 pub record WrittenFrom (old : List ℕ) (at w n : ℕ) (new : List ℕ) (i rest : ℕ) : Type 0 where
   pub within : i ≤ w
   pub ahead : padded i rest ≡ take i (padded w n)
   pub out : new ≡ take (at + i) old ++ (drop i (padded w n) ++ drop (at + w) old)
 
-pub from_none : (old : List ℕ) (at w n : ℕ) → at + w ≤ length old → WrittenFrom old at w n old w n
-from_none old at w n h = record {
-  within = omega arith;
-  ahead = sym (take_all w (padded w n) (omega (arith, length-padded w n)));
-  out = sym (ap (λ l. take (at + w) old ++ (l ++ drop (at + w) old)) (drop_all w (padded w n) (omega (arith, length-padded w n))) ∙ take-append-drop (at + w) old);
-}
+pub from_none : (old : List ℕ) (at w n i : ℕ) → at + w ≤ length old → i ≡ w → WrittenFrom old at w n old i n
+from_none old at w n i h e =
+    subst (λ k. WrittenFrom old at w n old k n) (sym e) (record {
+      within = omega arith;
+      ahead = sym (take_all w (padded w n) (omega (arith, length-padded w n)));
+      out = sym (ap (λ l. take (at + w) old ++ (l ++ drop (at + w) old)) (drop_all w (padded w n) (omega (arith, length-padded w n))) ∙ take-append-drop (at + w) old);
+    })
 
 -- the digit before those that are written
-pub from_more : (old : List ℕ) (at w n : ℕ) (new : List ℕ) (i rest : ℕ) → at + w ≤ length old → WrittenFrom old at w n new (i + 1) rest → WrittenFrom old at w n (set new (at + i) (48 + rest % 10)) i (rest / 10)
+from_more : (old : List ℕ) (at w n : ℕ) (new : List ℕ) (i rest : ℕ) → at + w ≤ length old → WrittenFrom old at w n new (i + 1) rest → WrittenFrom old at w n (set new (at + i) (48 + rest % 10)) i (rest / 10)
 from_more old at w n new i rest h p =
     let all = padded w n in
     let back = drop (at + w) old in
@@ -58,6 +46,11 @@ from_more old at w n new i rest h p =
           ∙ ap (λ b. take (at + i) old ++ b ∷ (drop (i + 1) all ++ back)) two.1
           ∙ ap (λ l. take (at + i) old ++ (l ++ back)) (sym (drop_more all i 0 lt));
     }
+
+-- the same at its place
+pub from_place : (old : List ℕ) (at w n : ℕ) (new : List ℕ) (rest i j place : ℕ) → at + w ≤ length old → j ≡ i + 1 → place ≡ at + i → WrittenFrom old at w n new j rest → WrittenFrom old at w n (set new place (48 + rest % 10)) i (rest / 10)
+from_place old at w n new rest i j place h e f p =
+    subst (λ k. WrittenFrom old at w n (set new k (48 + rest % 10)) i (rest / 10)) (sym f) (from_more old at w n new i rest h (subst (λ k. WrittenFrom old at w n new k rest) e p))
 
 pub from_all : (old : List ℕ) (at w n : ℕ) (new : List ℕ) (i rest : ℕ) → at + w ≤ length old → WrittenFrom old at w n new i rest → i ≡ 0 → Put old at (padded w n) new (at + w)
 from_all old at w n new i rest h p e = record {

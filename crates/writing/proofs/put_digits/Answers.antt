@@ -1,18 +1,16 @@
-use Rattle.std.proofs.Common.{◌≡◌, ◌+◌, ◌-◌, subst, arith, rules}
-use Rattle.writing.proofs.Padding.{WrittenFrom, from_none, from_more, from_all}
+use Rattle.std.proofs.Common.{◌+◌, ◌-◌, arith}
+use Rattle.writing.proofs.Padding.{from_none, from_place, from_all}
 use Rattle.writing.proofs.put_digits.Goals as goal
 
-pub loop-left-init : goal.loop-left-init
-loop-left-init c = search (rules, from_none)
+pub loop-place-init : goal.loop-place-init
+loop-place-init c = from_none c.args.out.now c.args.at c.args.width c.args.number (c.args.at + c.args.width - c.args.at) (omega arith) (omega arith)
 
-pub loop-left-preserved : goal.loop-left-preserved
-loop-left-preserved c =
-    let i = c.loop-left.left - 1 in
-    let e : c.loop-left.left ≡ i + 1 = omega arith in
-    from_more c.args.out.now c.args.at c.args.width c.args.number c.loop-left.out i c.loop-left.rest (omega arith)
-    (subst (λ k. WrittenFrom c.args.out.now c.args.at c.args.width c.args.number c.loop-left.out k c.loop-left.rest) e c.loop-left.invariant)
+pub loop-place-preserved : goal.loop-place-preserved
+loop-place-preserved c =
+    let place = c.loop-place.place in
+    from_place c.args.out.now c.args.at c.args.width c.args.number c.loop-place.out c.loop-place.rest (place - 1 - c.args.at) (place - c.args.at) (place - 1) (omega arith) (omega arith) (omega arith) c.loop-place.invariant
 
 pub returns : goal.returns
 returns c = record {
-  bytes = from_all c.args.out.now c.args.at c.args.width c.args.number c.loop-left.out c.loop-left.left c.loop-left.rest (omega arith) c.loop-left.invariant (omega arith);
+  bytes = from_all c.args.out.now c.args.at c.args.width c.args.number c.loop-place.out (c.loop-place.place - c.args.at) c.loop-place.rest (omega arith) c.loop-place.invariant (omega arith);
 }

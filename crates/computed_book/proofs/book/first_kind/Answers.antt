@@ -1,21 +1,16 @@
-use Rattle.std.proofs.Common.{sym, ◌∙◌, arith}
-use Rattle.std.proofs.lemmas.List.{at_drop_all}
-use Rattle.computed_book.specs.Rules.{first_kind}
-use Rattle.computed_book.proofs.Falls.{kind_found, kind_passed}
+use Rattle.std.proofs.Common.{◌≡◌, ap, ◌∙◌, rules}
+use borrow.Author.Tests.{tests}
+use Rattle.std.specs.Option.{option_map}
+use Rattle.std.proofs.lemmas.Iterator.{YieldsList-from_slice}
+use Rattle.std.proofs.lemmas.Iterator.Search.{find_from_yields_List}
+use Rattle.calendar.specs.Made.{day_of}
+use Rattle.calendar.specs.Kinds.{told_kind}
+use Rattle.computed_book.specs.Rules.{keeps}
+use Rattle.computed_book.proofs.Falls.{told_found}
 use Rattle.computed_book.proofs.book.first_kind.Goals as goal
-
-pub returns-then-falls : goal.returns-then-falls
-returns-then-falls c =
-    kind_found c.args.holidays.now c.loop-holiday.holiday-index c.args.day c.args.year c.args.month c.args.of_month _
-    c.loop-holiday-test.true c.loop-holiday.invariant c.if-falls.ensures
-
-pub loop-holiday-preserved : goal.loop-holiday-preserved
-loop-holiday-preserved c =
-    kind_passed c.args.holidays.now c.loop-holiday.holiday-index c.args.day c.args.year c.args.month c.args.of_month _
-    c.loop-holiday-test.true c.loop-holiday.invariant c.if-falls.ensures
 
 pub returns : goal.returns
 returns c =
-    sym
-    (sym c.loop-holiday.invariant
-    ∙ at_drop_all (λ hs. first_kind hs c.args.day c.args.year c.args.month c.args.of_month) c.args.holidays.now c.loop-holiday.holiday-index (omega arith))
+    let date = c.args.date in
+    let kind : c.map.result ≡ option_map (λ h. h.kind) (option_map (λ h. h.now) c.find.result) = search rules in
+    ap told_kind (kind ∙ ap (option_map (λ h. h.kind)) (find_from_yields_List (λ h. keeps h.rule (day_of date) date.year date.month date.of_month) _ _ c.find.result c.find.ensures.ran (YieldsList-from_slice c.args.holidays.now cc) (λ x b q k. search (rules, tests)))) ∙ told_found c.args.holidays.now (day_of date) date.year date.month date.of_month

@@ -1,5 +1,10 @@
-use Rattle.encoding.proofs.Passing.{passes_fit}
+use Rattle.encoding.proofs.Written.{written}
 use Rattle.encoding.proofs.write.write.Goals as goal
 
-pub write_fit-requires : goal.write_fit-requires
-write_fit-requires g c = passes_fit (g.C.Carrier.meaning c.args.c.now) c.in-None.ensures.words.right
+pub returns-clause-bytes : goal.returns-clause-bytes
+returns-clause-bytes g c =
+    rw (← c.in_ok-rows.ensures.rows) (written _ c.in_ok-rows.rows.passes c.length-content.ensures c.if-out-at.false (rw c.then.ensures at c.put-head.ensures) c.put-end.ensures).bytes
+
+pub returns-clause-again : goal.returns-clause-again
+returns-clause-again g c =
+    rw (← c.in_ok-rows.ensures.rows) (written _ c.in_ok-rows.rows.passes c.length-content.ensures c.if-out-at.false (rw c.then.ensures at c.put-head.ensures) c.put-end.ensures).again

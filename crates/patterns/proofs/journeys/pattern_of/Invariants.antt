@@ -1,9 +1,9 @@
-use Rattle.std.proofs.Common.{◌≡◌}
-use Rattle.patterns.specs.Journeys.{pattern_within, pattern_of}
+use Rattle.std.proofs.Common.{◌≡◌, ◌-◌}
+use Rattle.deposit.specs.Deposit.{journey_of}
+use Rattle.patterns.specs.Journeys.{steps_to_pattern, pattern_of}
+use Rattle.patterns.proofs.Within.{named_within}
 use Rattle.patterns.proofs.journeys.pattern_of.Given as goal
 
-abbrev pub invariant-loop-pattern : goal.invariant-loop-pattern
-invariant-loop-pattern g l = pattern_of (g.C.Carrier.meaning l.c) l.initial.journey ≡ pattern_within l.left (g.C.Carrier.meaning l.c) l.at
-
-abbrev pub decreases-loop-pattern : goal.decreases-loop-pattern
-decreases-loop-pattern g l = l.left
+abbrev pub invariant-loop : goal.invariant-loop
+invariant-loop g l =
+    pattern_of (g.C.Carrier.meaning l.c) l.journey ≡ named_within (steps_to_pattern - l.counter) (g.C.Carrier.meaning l.c) (journey_of l.row)

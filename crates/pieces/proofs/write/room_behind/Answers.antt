@@ -1,9 +1,13 @@
-use Rattle.std.proofs.Common.{◌≡◌, ◌+◌, ◌*◌, ◌<◌, length, sym, ap, ◌∙◌, subst, MatchOption}
-use Rattle.pieces.specs.Texts.{piece_text}
-use Rattle.pieces.proofs.Pieces.{length-hex}
+use Rattle.std.proofs.Common.{arith}
+use Rattle.pieces.proofs.Pieces.{no_piece, pieces_long, pieces_room}
 use Rattle.pieces.proofs.write.room_behind.Goals as goal
 
-pub returns-in-Hex : goal.returns-in-Hex
-returns-in-Hex c =
-    let long : length (piece_text c.args.piece) ≡ 3 * length c.in-Hex.bytes.now = ap (λ p. length (piece_text p)) c.in-Hex.is ∙ length-hex c.in-Hex.bytes.now in
-    subst (λ n. MatchOption c.hex_room_behind.result (c.args.room < n) (λ left. left + n ≡ c.args.room)) (sym long) c.hex_room_behind.ensures
+pub returns-in_err-left : goal.returns-in_err-left
+returns-in_err-left c =
+    let room = pieces_room c.args.pieces.now c.loop-piece.piece-index no_piece c.loop-piece-test.true in
+    record { answer = rw c.from_residual.ensures (omega (arith, room, c.in_err-left.ensures, c.loop-piece.invariant)) }
+
+pub loop-piece-preserved : goal.loop-piece-preserved
+loop-piece-preserved c =
+    let long = pieces_long c.args.pieces.now c.loop-piece.piece-index no_piece c.loop-piece-test.true in
+    omega (arith, long, c.in_ok-left.ensures, c.loop-piece.invariant)

@@ -1,15 +1,18 @@
-use Rattle.std.proofs.Common.{sym}
+use Rattle.std.proofs.Common.{◌≡◌, ◌<◌, IfSome, sym, ◌∙◌, subst, rules}
+use Rattle.calendar.specs.Dates.{last_day}
+use Rattle.calendar.specs.Made.{day_of}
 use Rattle.calendar.specs.Kinds.{told_kind}
-use Rattle.computed_book.specs.Rules.{computed_ends}
-use Rattle.computed_book.proofs.Exact.{kind_told, no_words}
+use Rattle.computed_book.proofs.Exact.{day_told, date_told, no_words}
 use Rattle.computed_book.proofs.book.ComputedBookDayBook.kind.Goals as goal
 
-pub returns-in-Ok : goal.returns-in-Ok
-returns-in-Ok c =
-    let k = kind_told c.args.day c.in-Ok.year c.in-Ok.month c.in-Ok.of_month c.in-Ok.ensures.answer (told_kind c.first_kind.result) c.first_kind.ensures in
-    record { meaning = k.0; words = k.1 }
+pub returns-in_err-date-clause-words : goal.returns-in_err-date-clause-words
+returns-in_err-date-clause-words c =
+    let past : last_day < c.args.day = search rules in
+    let none : told_kind c.from_residual.result ≡ 0 = search rules in
+    rw none (no_words c.args.day past)
 
-pub returns-in-Err : goal.returns-in-Err
-returns-in-Err c =
-    let h = c.in-Err.ensures.answer.0 in
-    record { meaning = sym (computed_ends c.args.day h); words = no_words c.args.day h }
+pub returns : goal.returns
+returns c =
+    let is = subst (λ o. IfSome o (λ date. c.args.day ≡ day_of date)) (sym c.ok.ensures.value ∙ c.in_ok-date.was) (day_told c.args.day c.of.result c.of.ensures.answer) in
+    let told = date_told c.args.day c.in_ok-date.date (told_kind c.first_kind.result) is c.first_kind.ensures in
+    record { meaning = told.0; words = told.1 }

@@ -11,10 +11,10 @@ returns c =
     let entry = dated c.args.day c.args.kind in
     let told = c.in_ok-self.ensures in
     let is : placed no_later entry (take book.count book.entries.now) ≡ take (book.count + 1) c.insert.new.rows =
-    front no_later entry book.entries.now book.count told.rows.0 c.insert.new.rows told.rows.2 in
+    front no_later entry book.entries.now c.insert.new.rows book.count told.rows.0 told.rows.2 in
     record {
       answer = told.rows;
-      order = told.order;
+      order = told.order c.args.self.now.ordered;
       holds = told.holds;
       after = λ d. ap (λ xs. kind_by xs d) (ap (λ n. take n c.insert.new.rows) told.rows.1 ∙ sym is) ∙ kind_placed entry (take book.count book.entries.now) d;
       same = refl;
