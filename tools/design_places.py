@@ -6,6 +6,7 @@ shape, once names, numbers and texts are taken out; 5 is facts and parameters th
 more; 8 counts the proofs. What is found is a candidate: docs/DESIGN-PASS.md says what became of each."""
 import collections
 import io
+import os
 import re
 import subprocess
 import sys
@@ -38,7 +39,7 @@ def sources(commit):
             texts = {m.name: files.extractfile(m).read().decode() for m in files.getmembers() if m.isfile()}
     else:
         names = subprocess.run(["git", "ls-files", "crates"], check=True, capture_output=True, text=True).stdout.split()
-        texts = {name: open(name, encoding="utf-8").read() for name in names}
+        texts = {name: open(name, encoding="utf-8").read() for name in names if os.path.isfile(name)}
     return dict(sorted(texts.items()))
 
 

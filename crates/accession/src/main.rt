@@ -44,7 +44,7 @@ fn answer<'a>(title: &[u8], tables: &Tables<'_, '_>, out: &'a mut [u8]) -> &'a [
 }
 
 fn main(rt: HostRuntime) -> io::Result<()> {
-    // fixed, since the library writes its texts into lent bytes
+    // fixed: the library allocates nothing, so its texts are written into lent bytes
     let mut buffer = [0u8; 128];
     rt.stdout()
         .write_all(answer(b"sample", &sample(), &mut buffer))?;

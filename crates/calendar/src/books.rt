@@ -18,6 +18,7 @@ pub enum HolidayKind {
     BoxingDay = 8,
 }
 
+// No library call gives the case of a discriminant.
 /// The kind that a number stands for; 40 for 0 and for a number above the greatest kind.
 impl TryFrom<u8> for HolidayKind {
     type Error = Refusal;

@@ -135,6 +135,7 @@ fn month_holding(year: u16, of_year: u32) -> (u8, u32)
 {
     let lengths = month_lengths(year);
     let mut left = of_year;
+    // tried a zip of months and lengths: it left goals open
     for month in 1..12 {
         let length = u32::from(lengths[month as usize - 1]);
         if left < length {
@@ -145,6 +146,7 @@ fn month_holding(year: u16, of_year: u32) -> (u8, u32)
     (12, left)
 }
 
+// Plain numbers here and in `join`, which may be no date; `Date` is beside them.
 /// The year, the month and the day of the month of a day; 40 for a number past the last day.
 pub fn split(day: u32) -> Result<(u16, u8, u8), Refusal>
     ensures answer { Splits day result }

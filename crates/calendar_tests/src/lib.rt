@@ -7,3 +7,5 @@ mod books;
 mod dates;
 #[cfg(test)]
 mod easters;
+#[cfg(test)]
+mod numbers;

@@ -11,7 +11,7 @@ use ranked::insert;
 use refusals::Refusal;
 
 /// A book of listed days over a list that its owner lends: its first `count` rows are the entries, in the order of their days.
-// A list with a count beside it and no `Vec`: lists are lent, since the archive has no heap.
+// A list with a count beside it and no `Vec`: lists are lent, since the calls of the archive allocate nothing.
 #[derive(Drop)]
 pub struct ListedBook<'a> {
     entries: &'a mut [DatedKind],

@@ -8,7 +8,7 @@ use crate::rows::{
 };
 use refusals::Kind;
 
-// Lent slices and no `Vec`: the archive has no heap.
+// Lent slices and no `Vec`: the calls of the archive allocate nothing.
 /// One table for each kind of row: `'a` lends the tables, `'t` the texts in them.
 #[derive(Clone, Copy)]
 pub struct Tables<'a, 't> {
@@ -25,7 +25,7 @@ pub struct Tables<'a, 't> {
     pub journeys: &'a [JourneyRow<'t>],
 }
 
-// Each read is one chain of the library: a generic function over a table would say no less.
+// Each read is one chain of the library: a generic function over a table would be no plainer. `Tables` derives no `==`: nothing compares it.
 impl Carrier for Tables<'_, '_> {
     ghost meaning = { tables_mean };
 

@@ -27,12 +27,14 @@ impl<'c, C: Carrier> PassingRows<'c, C> {
         ensures fault { result_err result ≡ verdict (C.Carrier.meaning carrier.now) }
         ensures rows { IfOk result (λ rows. rows.carrier.now ≡ carrier.now) }
     {
+        // by cases, since the field says what the second one knows
         match verdict(carrier) {
             Some(fault) => Err(fault),
             None => Ok(PassingRows { carrier }),
         }
     }
 
+    // Rows are measured beside being written: what does not fit must leave the bytes as they were.
     // How many bytes the content of a row takes. A row of each kind is of its own type, so each arm calls another `size`.
     fn row_length(&self, kind: Kind, row: usize) -> usize
         requires { row < count_of (C.Carrier.meaning self.now.carrier.now) kind }

@@ -12,7 +12,7 @@ use layout::table::DEPOSIT;
 /// The greatest length of the content of a field.
 pub const MOST_CONTENT: usize = 65_535;
 
-// Bytes and a place, as it was published.
+// Bytes and a place: a slice from the place on would be no plainer, since the contract speaks of all bytes.
 /// Writes the rows of a carrier as one deposit from place `at` on and tells its length in bytes. It refuses, and writes nothing:
 /// 11 to 20 where the rows break a rule, then 21 where their content is above 65,535 bytes, then 32 where it does not fit. What was
 /// written is read again as the same rows.

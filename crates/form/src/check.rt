@@ -52,7 +52,7 @@ fn check_form(bytes: &[u8]) -> Result<(), ByteFault>
     Ok(())
 }
 
-// The public answers stay what is looked for: a fault, or nothing.
+// A fault is what is looked for: a `Result` with nothing in its `Ok` would be no plainer.
 /// The first fault of one deposit that is due at a place, whatever stands behind it, or nothing.
 pub fn deposit_fault(place: usize, bytes: &[u8]) -> Option<ByteFault>
     requires { place + length bytes.now < 2 ^ 64 }

@@ -9,6 +9,7 @@ ghost use Rattle.form.specs.Look.{unless};
 use fields::reads::Field;
 use refusals::ByteFault;
 
+// Nothing compares them, so `==` is not derived.
 /// Bytes, and the place where they begin.
 #[derive(Clone, Copy)]
 pub(crate) struct Placed<'a> {

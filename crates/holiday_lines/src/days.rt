@@ -10,6 +10,8 @@ use crate::year::Year;
 use calendar::books::DayBook;
 use pieces::write::{put_pieces, room_behind};
 
+// A text is measured beside being written, as in `pieces`: one that does not fit must leave the buffer as it was. A struct of a book
+// with a year or a buffer would be taken apart at once.
 // What is left of so many bytes behind the text of a day; nothing where it does not fit.
 fn room_behind_day<B: DayBook>(book: &B, day: u32, room: usize) -> Option<usize>
     requires { day ≤ last_day }
@@ -32,7 +34,7 @@ pub(crate) fn room_behind_year<B: DayBook>(book: &B, year: Year, room: usize) ->
     Some(left)
 }
 
-// Writes the text of a day.
+// Writes the text of a day: a day that is no holiday has none, and a chain of `map_or` would be no plainer.
 fn put_day<B: DayBook>(book: &B, day: u32, out: &mut [u8], at: usize) -> usize
     requires within { day ≤ last_day }
     requires room { at + length (text_on (B.kind_of book.now) day) ≤ length out.old }

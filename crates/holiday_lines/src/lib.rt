@@ -16,6 +16,7 @@ use calendar::books::DayBook;
 use lines::refused_line;
 use refusals::Refusal;
 
+// Two lines, as `write_text` has: each measures and writes another thing.
 // Writes the lines of a year's holidays at the front.
 fn year_lines<B: DayBook>(book: &B, year: Year, out: &mut [u8]) -> Result<usize, Refusal>
     ensures { Written (text_of (B.kind_of book.now) (Some year.number)) out.old result out.new }

@@ -12,6 +12,7 @@ fn digit(byte: u8) -> Option<u16>
     byte.is_ascii_digit().then(|| u16::from(byte - b'0'))
 }
 
+// Nothing compares years, so `==` is not derived.
 /// A year from 2000 to 2199.
 #[derive(Clone, Copy)]
 pub(crate) struct Year {

@@ -14,7 +14,7 @@ use std::io::{BufRead, BufReader, Write};
 // How many lines are answered.
 const MOST_LINES: usize = 64;
 
-// The answer to one line, written into `out`. A year's text has less than 500 bytes; were the buffer too short all the same,
+// The answer to one line, written into `out`; the program `accession` has the like of another text. A year's text has less than 500 bytes; were the buffer too short all the same,
 // the answer would tell that.
 fn answer<'a>(line: &[u8], out: &'a mut [u8]) -> &'a [u8]
     ensures bytes { length (year_text computed_kind line.now) ≤ length out.old → result.now ≡ year_text computed_kind line.now }
@@ -30,7 +30,7 @@ fn answer<'a>(line: &[u8], out: &'a mut [u8]) -> &'a [u8]
 fn main(rt: HostRuntime) -> io::Result<()> {
     let heap = rt.alloc();
     let mut text = Vec::new(heap);
-    // fixed, since the library writes its texts into lent bytes
+    // fixed: the library allocates nothing, so its texts are written into lent bytes
     let mut buffer = [0u8; 1024];
     for line in BufReader::new(heap, rt.stdin())?
         .split(heap, b'\n')

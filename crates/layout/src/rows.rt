@@ -17,6 +17,7 @@ fn first_text(most: u16, bytes: &[u8]) -> Option<Field<'_>>
     Field::tagged(TEXT, bytes).filter(|text| text.content.len() <= usize::from(most))
 }
 
+// `form` passes texts too, and tells which fault and where; a test alone needs no place, so one for both would be no plainer.
 // What stands behind texts of at most so many bytes each, one behind the other.
 fn pass_texts<'a>(limits: &[u16], content: &'a [u8]) -> Option<&'a [u8]>
     ensures { MatchOption result (layout.texts limits.now content.now ≡ false) (λ rest. (layout.texts limits.now content.now ≡ true) × (rest.now ≡ layout.after_texts limits.now content.now)) }
@@ -28,7 +29,7 @@ fn pass_texts<'a>(limits: &[u16], content: &'a [u8]) -> Option<&'a [u8]>
     Some(rest)
 }
 
-// Whether the content of a field has the form of a row of a kind.
+// Whether the content of a field has the form of a row of a kind: the two go together here, and a struct would be taken apart at once.
 fn has_form(kind: Kind, content: &[u8]) -> bool
     ensures { result ≡ layout.fits kind content.now }
 {

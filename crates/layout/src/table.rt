@@ -73,6 +73,7 @@ pub fn numbers_fit(kind: Kind, content: &[u8]) -> bool
     content.len() == width(kind) && is_moment_whole(kind, content)
 }
 
+// A tag of no kind is no refusal to who looks bytes through, so the conversion's error goes.
 /// The kind whose number a tag is.
 pub fn kind_of(tag: u8) -> Option<Kind>
     ensures { result ≡ layout.kind_of tag }

@@ -8,6 +8,7 @@ use pieces::piece::Piece;
 use pieces::write::write_text;
 use refusals::Refusal;
 
+// By pieces and not by `Display`, as `write_text` says.
 /// Writes the line that tells a refusal at the front of `line` and tells its length; 44 where it does not fit.
 pub fn refused_line(refusal: Refusal, line: &mut [u8]) -> Result<usize, Refusal>
     ensures answer { Written (refused_text refusal) line.old result line.new }

@@ -4,6 +4,7 @@ ghost use Rattle.patterns.specs.Links.{Closed, Opened};
 
 use crate::links::is_open;
 
+// A span is told how many rows the list has: it holds no reference, so that it can be kept while its carrier is lent elsewhere.
 /// The rows of a list yet to come: at most `left` of them, from row `at` on. What lies past the end of the list is not there.
 #[derive(Clone, Copy, Debug, Default, PartialEq, Eq)]
 pub struct Span {

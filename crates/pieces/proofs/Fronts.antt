@@ -1,5 +1,5 @@
 -- A text at the front of a buffer. Assumes nothing.
-use Rattle.std.proofs.Common.{◌≡◌, ℕ, ◌+◌, List, ◌++◌, length, take, drop, Ok, sym, ap, ◌∙◌, arith}
+use Rattle.std.proofs.Common.{◌≡◌, ℕ, ◌+◌, ◌≤◌, List, ◌++◌, length, take, drop, Ok, sym, ap, ◌∙◌, arith, length-append}
 use Rattle.std.proofs.lemmas.List.{take_at}
 use Rattle.writing.specs.Puts.{Put}
 use Rattle.pieces.specs.Texts.{Written}
@@ -11,5 +11,8 @@ put_front {text} {old} {new} {n} p =
     (e, p.out ∙ ap (λ k. text ++ drop k old) f)
 
 -- what a reader of the first n bytes finds
+pub front_le : (text old new : List ℕ) (n : ℕ) → Written text old (Ok n) new → n ≤ length new
+front_le text old new n w = omega (arith, w.0, ap length w.1 ∙ length-append text (drop n old))
+
 pub front_is : (text old new : List ℕ) (n : ℕ) → Written text old (Ok n) new → take n new ≡ text
 front_is text old new n w = ap (take n) w.1 ∙ take_at text (drop n old) n (sym w.0)

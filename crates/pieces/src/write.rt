@@ -7,6 +7,8 @@ use crate::piece::Piece;
 use refusals::Refusal;
 use writing::{number_length, put_bytes, put_digits, put_number};
 
+// Bytes and place are two parameters here as in `writing`, and a text is measured beside being written: one that does not fit must
+// leave the buffer as it was.
 // What is left of so many bytes behind a piece; nothing where it does not fit.
 fn room_behind_piece(piece: Piece<'_>, room: usize) -> Option<usize>
     ensures { RoomBehind (piece_text piece.entry) room result }
@@ -19,7 +21,7 @@ fn room_behind_piece(piece: Piece<'_>, room: usize) -> Option<usize>
     }
 }
 
-// The library's digits past 9 are lower case.
+// The library's upper-case digits are written by an allocating call.
 fn hex_digit(number: u8) -> u8
     requires { number < 16 }
     ensures { result ≡ hex_digit number }

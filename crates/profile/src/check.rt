@@ -15,7 +15,8 @@ fn first_row<C: Carrier>(c: &C, rule: Rule, kind: Kind) -> Option<usize>
     (0..judged_rows(c, rule, kind)).find(|row| !is_kept(c, rule, kind, *row))
 }
 
-// The fault of the lowest row of a kind that breaks a rule.
+// The fault of the lowest row of a kind that breaks a rule. Here and below a fault or nothing is what is looked for, and `find_map`
+// takes it; `check` answers it as a refusal.
 fn row_fault<C: Carrier>(c: &C, rule: Rule, kind: Kind) -> Option<DepositFault>
     ensures { result ≡ row_fault rule (C.Carrier.meaning c.now) kind }
 {
@@ -31,7 +32,6 @@ fn rule_fault<C: Carrier>(c: &C, rule: Rule) -> Option<DepositFault>
         .find_map(|kind| row_fault(c, rule, *kind))
 }
 
-// A fault or nothing is what was looked for; `check` answers it as a refusal.
 /// The first rule that the rows of a carrier break, with the lowest kind and row, or nothing where they pass.
 pub fn verdict<C: Carrier>(c: &C) -> Option<DepositFault>
     ensures value { result ≡ verdict (C.Carrier.meaning c.now) }

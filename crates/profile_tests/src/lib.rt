@@ -14,6 +14,8 @@ mod journeys;
 #[cfg(test)]
 mod links;
 #[cfg(test)]
+mod numbers;
+#[cfg(test)]
 mod overriding;
 #[cfg(test)]
 mod profiles;

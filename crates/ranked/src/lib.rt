@@ -22,7 +22,7 @@ pub trait Rank {
 
 /// Puts `row` among the first `count` rows, behind every one that ranks no later, and tells how many there are then.
 /// A list with no row behind the first `count` refuses with 44.
-// A list with a count beside it and no `Vec`: lists are lent, since the archive has no heap.
+// A list with a count beside it and no `Vec`: lists are lent, since the calls of the archive allocate nothing.
 pub fn insert<R: Rank + Copy>(rows: &mut [R], count: usize, row: R) -> Result<usize, Refusal>
     ensures rows { Inserted R.no_later row count rows.old rows.new result }
     ensures order { in_order R.no_later (take count rows.old) ≡ true → IfOk result (λ n. in_order R.no_later (take n rows.new) ≡ true) }
@@ -38,7 +38,7 @@ pub fn insert<R: Rank + Copy>(rows: &mut [R], count: usize, row: R) -> Result<us
     Ok(count + 1)
 }
 
-// How many rows stand before the place of a new row.
+// How many rows stand before the place of a new row. Tried `map_or` for the match: the proof did not close.
 fn place<R: Rank>(rows: &[R], row: &R) -> usize
     ensures value { result ≡ place R.no_later row.now rows.now }
     ensures within { result ≤ length rows.now }

@@ -48,6 +48,7 @@ impl Kind {
     }
 }
 
+// No library call gives the case of a discriminant.
 /// The kind that a number stands for; 40 for the number of no kind.
 impl TryFrom<u8> for Kind {
     type Error = Refusal;

@@ -51,6 +51,7 @@ fn rise_end<C: Carrier>(c: &C, start: Span) -> Option<usize>
     let rows = c.count(Kind::Override);
     let mut least = 0;
     let mut span = start;
+    // a second iterator like `Links`, for this one loop, would be no plainer: the span counts, and asks how many rows there are
     while let Some(at) = span.next(rows) {
         let position = usize::from(c.override_row(at).position);
         if position < least {

@@ -54,7 +54,8 @@ pub fn judged_rows<C: Carrier>(c: &C, rule: Rule, kind: Kind) -> usize
     }
 }
 
-// The test of each rule: a match over a closed enum. Kind and row stay apart, as few of the tests look at both.
+// The test of each rule: a match over a closed enum. Carrier, kind and row stay three parameters, here and in the crates around:
+// each test would take a struct of them apart again.
 fn row_keeps<C: Carrier>(c: &C, rule: Rule, kind: Kind, row: usize) -> bool
     ensures { result ≡ kept rule (C.Carrier.meaning c.now) kind row }
 {

@@ -26,6 +26,7 @@ impl Moment {
         Ok(Moment { day, second })
     }
 
+    // It says the theorem on seconds, which `>` cannot.
     /// Whether this moment comes after the other.
     pub fn is_later_than(self, other: Moment) -> bool
         ensures value { result ≡ later self other }

@@ -10,7 +10,7 @@ use pieces::piece::Piece;
 use pieces::write::write_text;
 use refusals::{DepositFault, Kind, Refusal, Rule};
 
-// The line of a fault. Tried in the arm of `verdict_line`: under its nested pattern the proof did not close.
+// The line of a fault, by its three values. Tried in the arm of `verdict_line`: under its nested pattern the proof did not close.
 fn fault_line(
     title: &[u8],
     rule: Rule,

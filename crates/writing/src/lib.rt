@@ -25,7 +25,7 @@ pub fn put_digits(out: &mut [u8], at: usize, number: u64, width: usize) -> usize
 {
     let end = at + width;
     let mut rest = number;
-    // the last digit is the first to be known
+    // the last digit is the first to be known; tried `iter_mut().rev()`: the proof did not close
     for place in (at..end).rev() {
         out[place] = b'0' + (rest % 10) as u8;
         rest /= 10;

@@ -1,6 +1,6 @@
 use Rattle.std.proofs.Common.{ap}
 use Rattle.refusals.specs.declared.Kind.TheVariants as kinds
-use Rattle.layout.specs.Writing.{special_body, link_body, override_body, journey_body}
+use Rattle.layout.specs.Writing.{journey_body}
 use Rattle.writing.proofs.Putting.{put_as}
 use Rattle.encoding.proofs.Ranged.{head_can, line_can, stop_can, profile_can, journey_can, field_at}
 use Rattle.encoding.proofs.passing.PassingRows.put_row.Goals as goal
@@ -19,15 +19,6 @@ put_field-requires-in-Profile-clause-can g c = profile_can _ c.args.self.now.pas
 
 pub put_field-requires-in-Journey-clause-can : goal.put_field-requires-in-Journey-clause-can
 put_field-requires-in-Journey-clause-can g c = journey_can _ c.args.self.now.passes c.args.row c.args.kind c.in-Journey.is c.requires.within c.journey.result c.journey.ensures
-
-pub returns-in-Special : goal.returns-in-Special
-returns-in-Special g c = put_as (field_at _ c.args.row c.args.kind kinds.Special c.in-Special.is _ (ap special_body c.special.ensures)) c.put_field-in-Special.ensures
-
-pub returns-in-Link : goal.returns-in-Link
-returns-in-Link g c = put_as (field_at _ c.args.row c.args.kind kinds.Link c.in-Link.is _ (ap link_body c.link.ensures)) c.put_field-in-Link.ensures
-
-pub returns-in-Override : goal.returns-in-Override
-returns-in-Override g c = put_as (field_at _ c.args.row c.args.kind kinds.Override c.in-Override.is _ (ap override_body c.override_row.ensures)) c.put_field-in-Override.ensures
 
 pub returns-in-Journey : goal.returns-in-Journey
 returns-in-Journey g c = put_as (field_at _ c.args.row c.args.kind kinds.Journey c.in-Journey.is _ (ap journey_body c.journey.ensures)) c.put_field-in-Journey.ensures
