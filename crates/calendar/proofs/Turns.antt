@@ -2,6 +2,8 @@
 use Rattle.std.proofs.Common.{◌≡◌, ℕ, ◌+◌, ◌-◌, ◌<◌, ◌≤◌, cond, Ok, Err, Result, sym, ap, ◌∙◌, subst, arith}
 use Rattle.refusals.specs.declared.Refusal.{Refusal}
 use Rattle.calendar.specs.Dates.{leap, leaps, year_start, month_start, last_day, Valid, Dated, Splits, Joins}
+use Rattle.calendar.specs.declared.dates.Date.{Date}
+use Rattle.calendar.specs.Made.{DateMade, DateTold}
 use Rattle.calendar.proofs.Years.{leaps_next, year_le, same_year}
 use Rattle.calendar.proofs.Months.{month_more, month_end, year_length, same_month}
 
@@ -65,3 +67,13 @@ splits_back day y m d t (Ok (a, b, c)) h =
     let g = one_day day a b c y m d h t in
     cc
 splits_back day y m d t (Err e) h = absurd (omega (arith, dated_le day y m d t, h.0))
+
+-- what is answered for a date's day is its date
+pub told_back : (day y m d : ℕ) → Dated day y m d → (s : Result Date Refusal) → DateTold day s → DateMade y m d s
+told_back day y m d t (Ok date) h =
+    let u : Dated day date.year date.month date.of_month = record { valid = date.valid; is = h } in
+    let e = one_year day date.year date.month date.of_month y m d u t in
+    let f = one_month day date.year date.month date.of_month y m d u t in
+    let g = one_day day date.year date.month date.of_month y m d u t in
+    cc
+told_back day y m d t (Err e) h = absurd (omega (arith, dated_le day y m d t, h.0))

@@ -22,6 +22,7 @@ pub struct Date {
 }
 
 impl Date {
+    ghost use Rattle.calendar.specs.declared.dates.Date.{Date as DateOf};
     ghost use Rattle.calendar.specs.Made.{day_of, DateMade, DateTold};
 
     /// The date of a year, a month and a day of the month; 40 where they are no date of the calendar.
@@ -41,6 +42,7 @@ impl Date {
     /// The date of a day; 40 for a number past the last day.
     pub fn of(day: u32) -> Result<Date, Refusal>
         ensures answer { DateTold day result }
+        ensures back { IfOk result (λ date. day_of date ≡ day) }
     {
         if day > LAST_DAY {
             return Err(Refusal::OutOfRange);
@@ -59,6 +61,7 @@ impl Date {
     pub fn day(self) -> u32
         ensures value { result ≡ day_of self }
         ensures within { result ≤ last_day }
+        ensures back { (s : ResultOf DateOf RefusalOf) → DateTold result s → DateMade self.year self.month self.of_month s }
     {
         let before_year = days_before_year(u32::from(self.year - 2000));
         let before_month = total(&month_lengths(self.year)[..self.month as usize - 1]);
@@ -146,7 +149,7 @@ fn month_holding(year: u16, of_year: u32) -> (u8, u32)
     (12, left)
 }
 
-// Plain numbers here and in `join`, which may be no date; `Date` is beside them.
+// Plain numbers here and in `join`, for who holds no `Date`; those that `join` takes may be none.
 /// The year, the month and the day of the month of a day; 40 for a number past the last day.
 pub fn split(day: u32) -> Result<(u16, u8, u8), Refusal>
     ensures answer { Splits day result }

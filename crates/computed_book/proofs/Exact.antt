@@ -294,7 +294,7 @@ module _ (day y m d : ℕ) (t : Dated day y m d) where
         boxing_day = through p.7 (on_date day y m d t 12 26);
       }
 
-  kind_told : (r : ℕ) → r ≡ first_kind holidays day y m d → (r ≡ computed_kind day) × Holidays day r
+  pub kind_told : (r : ℕ) → r ≡ first_kind holidays day y m d → (r ≡ computed_kind day) × Holidays day r
   kind_told r e = (e ∙ sym kind_is, subst (Holidays day) (sym e) words)
 
 -- a day's date, if it has one, is of that day
@@ -302,9 +302,8 @@ pub day_told : (day : ℕ) (r : Result Date Refusal) → DateTold day r → IfSo
 day_told day (Ok date) t = t
 day_told day (Err e) t = tt
 
-pub date_told : (day : ℕ) (date : Date) (r : ℕ) → day ≡ day_of date → r ≡ first_kind holidays (day_of date) date.year date.month date.of_month → (r ≡ computed_kind day) × Holidays day r
-date_told day date r e h =
-    kind_told day date.year date.month date.of_month (record { valid = date.valid; is = e }) r (h ∙ ap (λ n. first_kind holidays n date.year date.month date.of_month) (sym e))
+pub date_told : (day : ℕ) (date : Date) (r : ℕ) → day ≡ day_of date → r ≡ first_kind holidays day date.year date.month date.of_month → (r ≡ computed_kind day) × Holidays day r
+date_told day date r e h = kind_told day date.year date.month date.of_month (record { valid = date.valid; is = e }) r h
 
 -- past the calendar there is no holiday
 pub no_words : (day : ℕ) → last_day < day → Holidays day 0

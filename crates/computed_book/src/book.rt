@@ -1,6 +1,5 @@
 // The computed book: the holidays of England and Wales by their rules, without substitute days.
 ghost use Rattle.std.specs.Prelude.{◌≡◌};
-ghost use Rattle.calendar.specs.Made.{day_of};
 ghost use Rattle.calendar.specs.Kinds.{told_kind};
 ghost use Rattle.computed_book.specs.Rules.{keeps, first_kind, computed_kind, computed_few, computed_ends};
 ghost use Rattle.computed_book.specs.Words.{Holidays};
@@ -11,11 +10,11 @@ use calendar::dates::Date;
 use calendar::tables::{HOLIDAYS, Holiday, HolidayRule};
 use calendar::weeks::Weekday;
 
-// Whether a date falls by the rule: one arm for each case of a closed enum, whose holidays stand in a constant table.
-fn falls(rule: HolidayRule, date: Date) -> bool
-    ensures { result ≡ keeps rule (day_of date) date.year date.month date.of_month }
+// Whether a date falls by the rule: one arm for each case of a closed enum, whose holidays stand in a constant table. Its day goes
+// along, since who asks knows it and eight rules would each count it again.
+fn falls(rule: HolidayRule, day: u32, date: Date) -> bool
+    ensures { result ≡ keeps rule day date.year date.month date.of_month }
 {
-    let day = date.day();
     match rule {
         HolidayRule::Date { month, of_month } => date.month == month && date.of_month == of_month,
         HolidayRule::First { weekday, month } => {
@@ -35,13 +34,13 @@ fn falls(rule: HolidayRule, date: Date) -> bool
     }
 }
 
-// The kind of the first holiday whose rule a date keeps.
-fn first_kind(holidays: &[Holiday], date: Date) -> Option<HolidayKind>
-    ensures { told_kind result ≡ first_kind holidays.now (day_of date) date.year date.month date.of_month }
+// The kind of the first holiday whose rule a day with its date keeps.
+fn first_kind(holidays: &[Holiday], day: u32, date: Date) -> Option<HolidayKind>
+    ensures { told_kind result ≡ first_kind holidays.now day date.year date.month date.of_month }
 {
     holidays
         .iter()
-        .find(|holiday| falls(holiday.rule, date))
+        .find(|holiday| falls(holiday.rule, day, date))
         .map(|holiday| holiday.kind)
 }
 
@@ -61,6 +60,6 @@ impl DayBook for ComputedBook {
         ensures words { Holidays day (told_kind result) }
     {
         let date = Date::of(day).ok()?;
-        first_kind(&HOLIDAYS, date)
+        first_kind(&HOLIDAYS, day, date)
     }
 }

@@ -1,22 +1,26 @@
 -- The first entry of a day: found by a walk, and among entries to which one was added. Assumes nothing.
-use Rattle.std.proofs.Common.{◌≡◌, ℕ, Some, ◌==◌, Bool, true, false, cond, not, ◌&&◌, ◌||◌, eqb, leb, List, [], ◌∷◌, ◌++◌, take, drop, sym, refl, ap, ◌∙◌, arith}
-use Rattle.std.specs.List.{find, list_all}
-use Rattle.std.specs.Option.{option_map, unwrap_or}
-use Rattle.std.proofs.lemmas.List.{take-append-drop}
-use Rattle.std.proofs.lemmas.Bool.{and_parts, or_from, not-true, leb-false, eqb-true, ne_eqb}
+use Rattle.std.proofs.Common.{◌≡◌, ℕ, ◌+◌, ◌<◌, Bool, true, false, cond, not, ◌&&◌, ◌||◌, eqb, leb, List, [], ◌∷◌, ◌++◌, length, get_or, take, drop, sym, refl, ap, ◌∙◌, arith}
+use Rattle.std.specs.List.{list_all}
+use Rattle.std.proofs.lemmas.List.{take-append-drop, at_drop_more}
+use Rattle.std.proofs.lemmas.Bool.{and_parts, or_from, not-true, leb-false, eqb-true, eq-eqb, ne_eqb, cond-true, cond-false}
 use Rattle.ranked.specs.Placing.{place, placed}
 use Rattle.ranked.proofs.Order.{place_behind}
 use Rattle.calendar.specs.Dates.{last_day}
 use Rattle.calendar.specs.Kinds.{kind_told}
 use Rattle.day_books.specs.declared.dated.DatedKind.{DatedKind}
-use Rattle.day_books.specs.Entries.{no_later, has_day, first_kind, kind_by, kind_after}
+use Rattle.day_books.specs.Entries.{dated, no_later, has_day, first_kind, kind_by, kind_after}
 
--- the first entry that is of a day has its number
-pub found_kind : (xs : List DatedKind) (d : ℕ) → unwrap_or (option_map (λ x. x.kind) (find (λ x. x.day == d) xs)) 0 ≡ first_kind xs d
-found_kind [] d = refl
-found_kind (x ∷ xs) d =
-    elim (x.day == d) as (λ b. unwrap_or (option_map (λ z. z.kind) (cond b (Some x) (find (λ z. z.day == d) xs))) 0 ≡ cond b x.kind (first_kind xs d))
-    [ true ↦ refl | false ↦ found_kind xs d ]
+-- a walk finds the day at an entry, or goes on behind it
+module _ (xs : List DatedKind) (d i : ℕ) (less : i < length xs) (inv : first_kind (drop i xs) d ≡ first_kind xs d) where
+  pub first_here : (get_or xs i (dated 0 0)).day ≡ d → (get_or xs i (dated 0 0)).kind ≡ first_kind xs d
+  first_here e =
+      let x = get_or xs i (dated 0 0) in
+      sym (sym inv ∙ at_drop_more (λ ys. first_kind ys d) xs i (dated 0 0) less ∙ cond-true (eqb x.day d) x.kind (first_kind (drop (i + 1) xs) d) (eq-eqb x.day d e))
+
+  pub first_more : ((get_or xs i (dated 0 0)).day ≡ d → ⊥) → first_kind (drop (i + 1) xs) d ≡ first_kind xs d
+  first_more e =
+      let x = get_or xs i (dated 0 0) in
+      sym (sym inv ∙ at_drop_more (λ ys. first_kind ys d) xs i (dated 0 0) less ∙ cond-false (eqb x.day d) x.kind (first_kind (drop (i + 1) xs) d) (ne_eqb x.day d e))
 
 -- entries that all rank later than one of a day hold none of that day
 later_none : (x : DatedKind) (d : ℕ) (xs : List DatedKind) → x.day ≡ d → list_all (λ y. not (no_later y x)) xs ≡ true → has_day xs d ≡ false

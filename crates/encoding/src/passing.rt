@@ -73,8 +73,8 @@ impl<'c, C: Carrier> PassingRows<'c, C> {
         ensures { result ≡ length (deposit_content (C.Carrier.meaning self.now.carrier.now)) }
     {
         let mut total = 0;
-        for kind in KINDS {
-            total += self.kind_length(kind);
+        for kind in &KINDS {
+            total += self.kind_length(*kind);
         }
         total
     }
@@ -118,8 +118,8 @@ impl<'c, C: Carrier> PassingRows<'c, C> {
         ensures { Put out.old 0 (deposit_content (C.Carrier.meaning self.now.carrier.now)) out.new result }
     {
         let mut next = 0;
-        for kind in KINDS {
-            next += self.put_kind(&mut out[next..], kind);
+        for kind in &KINDS {
+            next += self.put_kind(&mut out[next..], *kind);
         }
         next
     }

@@ -1,5 +1,5 @@
 // The line of a holiday.
-ghost use Rattle.std.specs.Prelude.{◌≡◌, ◌≤◌};
+ghost use Rattle.std.specs.Prelude.{◌≡◌, ◌≤◌, length};
 ghost use Rattle.calendar.specs.Dates.{last_day};
 ghost use Rattle.calendar.specs.Kinds.{kind_number};
 ghost use Rattle.pieces.specs.Texts.{pieces_text};
@@ -14,7 +14,8 @@ use pieces::piece::Piece;
 /// The pieces of the line of a holiday.
 pub(crate) fn line_of(day: u32, kind: HolidayKind) -> [Piece<'static>; 10]
     requires { day ≤ last_day }
-    ensures { pieces_text result ≡ line_of day (kind_number kind) }
+    ensures text { pieces_text result ≡ line_of day (kind_number kind) }
+    ensures few { length (line_of day (kind_number kind)) ≤ 80 }
 {
     let date = Date::of(day).unwrap();
     [

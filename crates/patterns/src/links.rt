@@ -33,7 +33,7 @@ pub fn along<C: Carrier>(c: &C, pattern: usize) -> Cursor
 pub fn next_link<C: Carrier>(c: &C, cursor: &mut Cursor) -> Option<LinkRow>
     ensures rows { Stepped (ahead (C.meaning c.now) cursor.old) result (ahead (C.meaning c.now) cursor.new) }
 {
-    // once for each section that has no links; no number of turns is known before
+    // once more for each section that is begun; no number of turns is known before
     loop {
         if let Some(link) = cursor.links.next(c.count(Kind::Link)) {
             return Some(c.link(link));

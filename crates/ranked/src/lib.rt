@@ -34,6 +34,10 @@ pub fn insert<R: Rank + Copy>(rows: &mut [R], count: usize, row: R) -> Result<us
     }
     let at = place(&rows[..count], &row);
     rows[count] = row;
+    // a row that goes behind all others is at its place already
+    if at == count {
+        return Ok(count + 1);
+    }
     rows[at..=count].rotate_right(1);
     Ok(count + 1)
 }

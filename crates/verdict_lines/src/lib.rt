@@ -1,10 +1,10 @@
 // The line that tells the verdict on a deposit.
 #![tactic(auto)]
 
-ghost use Rattle.std.specs.Prelude.{Some};
+ghost use Rattle.std.specs.Prelude.{◌≤◌, length, Some};
 ghost use Rattle.refusals.specs.declared.DepositFault.TheVariants.{Breaks};
 ghost use Rattle.pieces.specs.Texts.{Written};
-ghost use Rattle.verdict_lines.specs.Texts.{verdict_text};
+ghost use Rattle.verdict_lines.specs.Texts.{fault_words, verdict_text};
 
 use pieces::piece::Piece;
 use pieces::write::write_text;
@@ -18,7 +18,8 @@ fn fault_line(
     row: usize,
     line: &mut [u8],
 ) -> Result<usize, Refusal>
-    ensures { Written (verdict_text title.now (Some (Breaks rule kind row))) line.old result line.new }
+    ensures answer { Written (verdict_text title.now (Some (Breaks rule kind row))) line.old result line.new }
+    ensures few { length (fault_words rule kind row) ≤ 79 }
 {
     write_text(
         &[
