@@ -4,7 +4,7 @@
 ghost use Rattle.std.specs.Prelude.{◌≤◌, length, Some};
 ghost use Rattle.refusals.specs.declared.DepositFault.TheVariants.{Breaks};
 ghost use Rattle.pieces.specs.Texts.{Written};
-ghost use Rattle.verdict_lines.specs.Texts.{fault_words, verdict_text};
+ghost use Rattle.verdict_lines.specs.Texts.{fault_words, verdict_words, verdict_text};
 
 use pieces::piece::Piece;
 use pieces::write::write_text;
@@ -43,6 +43,7 @@ pub fn verdict_line(
     line: &mut [u8],
 ) -> Result<usize, Refusal>
     ensures answer { Written (verdict_text title.now verdict) line.old result line.new }
+    ensures few { length (verdict_words verdict) ≤ 79 }
 {
     match verdict {
         Some(DepositFault::Breaks { rule, kind, row }) => fault_line(title, rule, kind, row, line),

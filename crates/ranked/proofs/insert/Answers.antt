@@ -1,4 +1,4 @@
-use Rattle.std.proofs.Common.{◌≡◌, ◌+◌, ◌-◌, true, ◌∷◌, ◌++◌, take, drop, set, sym, refl, subst, ap, ◌∙◌, arith}
+use Rattle.std.proofs.Common.{◌≡◌, ◌+◌, ◌-◌, true, ◌∷◌, ◌++◌, take, drop, set, refl, subst, ap, ◌∙◌, arith}
 use borrow.Rule.Slice.PartMut.{put_mid}
 use Rattle.std.specs.List.{insert}
 use Rattle.std.proofs.lemmas.List.{length-take-le}
@@ -16,7 +16,7 @@ returns-then-at-count g c =
     let n = c.args.count in
     let row = c.args.row in
     let rows = set xs n row in
-    let last : n ≡ place nl row (take n xs) = sym c.if-at-count.true ∙ c.place-at.ensures.value in
+    let last : n ≡ place nl row (take n xs) = omega (arith, c.if-at-count.true, c.place-at.ensures.value, c.place-at.ensures.within, length-take-le n xs (omega arith)) in
     let w : rows ≡ placed nl row (take n xs) ++ drop (n + 1) xs = put_last xs n row (omega arith) ∙ ap (λ i. insert (take n xs) i row ++ drop (n + 1) xs) last in
     let f : placed nl row (take n xs) ≡ take (n + 1) rows = front nl row xs rows n (omega arith) w in
     record {
